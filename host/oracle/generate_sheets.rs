@@ -18,7 +18,7 @@ pub fn valid(chance: &mut Chance, item: usize, ranges: Ranges, out: &mut Out<'_>
 pub fn damaged(chance: &mut Chance, item: usize, ranges: Ranges, out: &mut Out<'_>) -> Result<(), String> {
     let n = chance.from(ranges.n.0, ranges.n.1);
     let mut sizes = (n, chance.from(1, 20), chance.from(0, 5));
-    // Half of the wrong sizes come with a body that fits them, so that their number shows alone.
+    // Some wrong sizes come with a body that fits them, so that their number shows alone.
     if chance.one_in(8) {
         match chance.below(4) {
             0 => sizes.0 = 129,

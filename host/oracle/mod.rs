@@ -6,11 +6,12 @@ mod greedy;
 #[allow(dead_code)]
 pub(crate) mod local_search;
 
+use std::fmt;
 use std::marker::PhantomData;
 
 pub use exact::solve_tsp_exact;
-pub(crate) use greedy::nearest_neighbor_tour;
 pub use greedy::greedy_nearest_neighbor;
+pub(crate) use greedy::nearest_neighbor_tour;
 
 pub type Tour = Vec<usize>;
 
@@ -21,6 +22,15 @@ pub enum TspError {
     Invalid(String),
     OutOfMemory(String),
     Interrupted,
+}
+
+impl fmt::Display for TspError {
+    fn fmt(&self, f: &mut fmt::Formatter<'_>) -> fmt::Result {
+        match self {
+            TspError::Invalid(msg) | TspError::OutOfMemory(msg) => f.write_str(msg),
+            TspError::Interrupted => f.write_str("Interrupted"),
+        }
+    }
 }
 
 fn invalid<T>(msg: impl Into<String>) -> Result<T> {

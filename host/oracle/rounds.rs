@@ -35,7 +35,7 @@ pub fn exact(line: &str) -> Result<String, String> {
     }
     let dists = DistMatrix::new(n, &matrix);
     let round = solve_tsp_exact(&dists, &Budget::new(0, 0))
-        .map_err(|error| format!("the exact solver failed: {error:?}"))?;
+        .map_err(|error| format!("the exact solver failed: {error}"))?;
     let round: Vec<u32> = round.iter().map(|&stop| stop as u32).collect();
     Ok(format!("0 {} round:{}", calls::time_of(&dists, &round), stops(&round)))
 }

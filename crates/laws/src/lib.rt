@@ -1,0 +1,1 @@
+// The laws are theorems about the rules: they stand in proofs/, and this crate has no code.
