@@ -193,6 +193,7 @@ impl Script<'_, '_> {
             match number {
                 1 => self.damage_stops(&mut repairs)?,
                 2 => told = self.damage_settings(&mut repairs)?,
+                3 | 7 if self.chance.one_in(5) => told = Some(self.wrong_start(number)),
                 3 => self.damage_length(&mut repairs)?,
                 4 => self.damage_room(&mut repairs)?,
                 5 => self.damage_symmetry(&mut repairs)?,
@@ -268,6 +269,17 @@ impl Script<'_, '_> {
             }
         }
         Ok(None)
+    }
+
+    /// A load whose start round is too short or too long, or else no permutation.
+    fn wrong_start(&mut self, number: usize) -> String {
+        let n = self.n;
+        let start: Vec<usize> = match number {
+            3 => (0..self.chance.one_of(&[0, n - 1, n + 1])).collect(),
+            _ if self.chance.one_in(2) => (1..=n).collect(),
+            _ => (0..n).map(|place| place.max(1)).collect(),
+        };
+        format!("load{}", words(&start))
     }
 
     /// One slice is a word too long or too short.

@@ -54,8 +54,9 @@ pub fn damaged(chance: &mut Chance, item: usize, ranges: Ranges, out: &mut Out<'
             12 => bytes.truncate(chance.one_of(&[0, 1, HEADER - 1, HEADER, HEADER + 1])),
             13 => bytes.resize(bytes.len() + chance.from(1, 20), 0),
             14 if bytes.len() >= HEADER => {
-                let bit = chance.below(8 * HEADER);
-                bytes[bit / 8] ^= 0x80 >> (bit % 8);
+                // Not the upper bytes of the budget, whose search would take hours.
+                let byte = chance.one_of(&[0, 1, 2, 3, 7, 8, 9, 10, 11, 12, 13, 14, 15]);
+                bytes[byte] ^= 1 << chance.below(8);
             }
             15 => {
                 if let Some(last) = bytes.last_mut() {

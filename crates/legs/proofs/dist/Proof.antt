@@ -18,7 +18,10 @@ wide-requires c κs = search needs
 
 -- src/lib.rt:34:13
 mul-i : tie.Need-mul-i
-mul-i c = let st = c .before .before in omega (arith, row-within (st .args .n) (st .args .n) (st .args .a .0) (c .wide .result) (c .wide .ensures) (st .pre .1 .0), cells-few (st .args .n) (st .args .n) (st .pre .0 .few) (st .pre .0 .few))
+mul-i c =
+    let st = c .before .before in
+    let row : c .wide .result < st .args .n = omega (arith, c .wide .ensures) in
+    omega (arith, row-within (st .args .n) (st .args .n) (c .wide .result) row, cells-few (st .args .n) (st .args .n) (st .pre .0 .few) (st .pre .0 .few))
 
 -- src/lib.rt:34:29
 wide-requires-2 : tie.Need-wide-requires-2
@@ -26,15 +29,24 @@ wide-requires-2 c κs = search needs
 
 -- src/lib.rt:34:13
 add-i : tie.Need-add-i
-add-i c = let st = c .before .before .before in omega (arith, row-within (st .args .n) (st .args .n) (st .args .a .0) (c .before .wide .result) (c .before .wide .ensures) (st .pre .1 .0), cells-few (st .args .n) (st .args .n) (st .pre .0 .few) (st .pre .0 .few))
+add-i c =
+    let st = c .before .before .before in
+    let row : c .before .wide .result < st .args .n = omega (arith, c .before .wide .ensures) in
+    omega (arith, row-within (st .args .n) (st .args .n) (c .before .wide .result) row, cells-few (st .args .n) (st .args .n) (st .pre .0 .few) (st .pre .0 .few))
 
 -- src/lib.rt:35:12
 mul-wide16 : tie.Need-mul-wide16
-mul-wide16 c = let st = c .before .before .before in omega (arith, row-within (st .args .n) (st .args .n) (st .args .a .0) (c .before .wide .result) (c .before .wide .ensures) (st .pre .1 .0), cells-few (st .args .n) (st .args .n) (st .pre .0 .few) (st .pre .0 .few))
+mul-wide16 c =
+    let st = c .before .before .before in
+    let row : c .before .wide .result < st .args .n = omega (arith, c .before .wide .ensures) in
+    omega (arith, row-within (st .args .n) (st .args .n) (c .before .wide .result) row, cells-few (st .args .n) (st .args .n) (st .pre .0 .few) (st .pre .0 .few))
 
 -- src/lib.rt:35:12
 shared-slice-read-wide16 : tie.Need-shared-slice-read-wide16
-shared-slice-read-wide16 c = let st = c .before .before .before .before in omega (arith, c .before .wide2 .ensures, st .pre .0 .cells, row-within (st .args .n) (st .args .n) (st .args .a .0) (c .before .before .wide .result) (c .before .before .wide .ensures) (st .pre .1 .0), cells-few (st .args .n) (st .args .n) (st .pre .0 .few) (st .pre .0 .few))
+shared-slice-read-wide16 c =
+    let st = c .before .before .before .before in
+    let row : c .before .before .wide .result < st .args .n = omega (arith, c .before .before .wide .ensures) in
+    omega (arith, c .before .wide2 .ensures, st .pre .0 .cells, row-within (st .args .n) (st .args .n) (c .before .before .wide .result) row, cells-few (st .args .n) (st .args .n) (st .pre .0 .few) (st .pre .0 .few))
 
 -- src/lib.rt:35:5
 wide16-requires : tie.Need-wide16-requires
