@@ -77,7 +77,11 @@ fn exact_line(chance: &mut Chance, item: usize, ranges: Ranges) -> String {
     let least = (1 << (n - 1)) * (n - 1);
     let larger = least + chance.below(100);
     match chance.below(20) {
-        0 => format!("{} {larger}{}", chance.one_of(&[0, 26, n + 1]), words(&matrix)),
+        0 => format!(
+            "{} {larger}{}",
+            chance.one_of(&[0, 26, n + 1]),
+            words(&matrix)
+        ),
         1 => format!("{n} {larger}{}", words(&matrix[1..])),
         2 if n > 1 => format!("{n} {}{}", chance.below(least), words(&matrix)),
         3..=10 => format!("{n} {larger}{}", words(&matrix)),

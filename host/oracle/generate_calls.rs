@@ -7,7 +7,12 @@ use crate::script::Session;
 use crate::shapes;
 
 /// A script: set-up, a load, then calls, planted journals, refusals by damage and their repair.
-pub fn script(chance: &mut Chance, item: usize, ranges: Ranges, out: &mut Out<'_>) -> Result<(), String> {
+pub fn script(
+    chance: &mut Chance,
+    item: usize,
+    ranges: Ranges,
+    out: &mut Out<'_>,
+) -> Result<(), String> {
     if item > 0 {
         out("---")?;
     }
@@ -157,7 +162,9 @@ impl Script<'_, '_> {
 
     /// Holds nearly as many entries as there is room for; entries of words 0 reverse nothing.
     fn fill_journal(&mut self) -> Result<(), String> {
-        let held = self.chance.one_of(&[380, 400, 408, 411, 412, 413, 470, 481, 482, 483, 511, 512]);
+        let held = self
+            .chance
+            .one_of(&[380, 400, 408, 411, 412, 413, 470, 481, 482, 483, 511, 512]);
         self.hold(held)?;
         self.kick()?;
         let step = self.step();
@@ -168,7 +175,10 @@ impl Script<'_, '_> {
 
     /// Makes `held` entries held, those that are new of words 0.
     fn hold(&mut self, held: usize) -> Result<(), String> {
-        let (length, old) = (self.session.lent.journal.len(), self.session.lent.state.held);
+        let (length, old) = (
+            self.session.lent.journal.len(),
+            self.session.lent.state.held,
+        );
         self.line(&format!("size journal {}", (old * ENTRY).min(length)))?;
         self.line(&format!("size journal {length}"))?;
         self.line(&format!("put held {}", held.max(old)))?;
@@ -247,7 +257,11 @@ impl Script<'_, '_> {
             2 => self.put("ka", 6, ka, repairs)?,
             3 => {
                 self.put("draw", 0, draw, repairs)?;
-                return Ok(Some(self.chance.one_of(&["kick 0", "search 0 0 0 0"]).to_string()));
+                return Ok(Some(
+                    self.chance
+                        .one_of(&["kick 0", "search 0 0 0 0"])
+                        .to_string(),
+                ));
             }
             4 => {
                 let length = self.session.lent.alpha.len();
@@ -362,7 +376,12 @@ impl Script<'_, '_> {
         let (held, room) = (state.held, self.session.lent.room());
         let big = u64::from(u32::MAX);
         match self.chance.below(10) {
-            0 => self.put("time", u64::from(state.time) ^ 1, u64::from(state.time), repairs),
+            0 => self.put(
+                "time",
+                u64::from(state.time) ^ 1,
+                u64::from(state.time),
+                repairs,
+            ),
             1 => self.put("head", n, state.head as u64, repairs),
             2 => self.put("count", n + 1, state.count as u64, repairs),
             3 => self.put("held", room as u64 + 1, held as u64, repairs),
@@ -409,7 +428,13 @@ impl Script<'_, '_> {
     }
 
     /// Puts a wrong value; n, k, ka and the draw state are always repaired.
-    fn put(&mut self, name: &str, wrong: u64, right: u64, repairs: &mut Vec<Repair>) -> Result<(), String> {
+    fn put(
+        &mut self,
+        name: &str,
+        wrong: u64,
+        right: u64,
+        repairs: &mut Vec<Repair>,
+    ) -> Result<(), String> {
         self.line(&format!("put {name} {wrong}"))?;
         let line = format!("put {name} {right}");
         repairs.push(match name {
@@ -420,7 +445,13 @@ impl Script<'_, '_> {
     }
 
     /// Sets a wrong word of what a load writes anew, if it is there.
-    fn set(&mut self, name: &str, at: usize, wrong: u64, repairs: &mut Vec<Repair>) -> Result<(), String> {
+    fn set(
+        &mut self,
+        name: &str,
+        at: usize,
+        wrong: u64,
+        repairs: &mut Vec<Repair>,
+    ) -> Result<(), String> {
         let lent = &self.session.lent;
         let old = match name {
             "round" => lent.round.get(at).copied(),

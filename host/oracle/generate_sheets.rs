@@ -6,16 +6,30 @@ use crate::sheet::{Fields, HEADER, answer_length};
 use crate::{shapes, to_hex};
 
 /// A valid sheet with room for its answer, or more.
-pub fn valid(chance: &mut Chance, item: usize, ranges: Ranges, out: &mut Out<'_>) -> Result<(), String> {
+pub fn valid(
+    chance: &mut Chance,
+    item: usize,
+    ranges: Ranges,
+    out: &mut Out<'_>,
+) -> Result<(), String> {
     let n = chance.from(ranges.n.0, ranges.n.1);
     let (k, ka) = (chance.from(1, 20), chance.from(0, 5));
     let fields = fields(chance, item, ranges, (n, k, ka));
     let more = chance.one_of(&[0, 0, 1, 7]);
-    out(&format!("{} {}", to_hex(&fields.pack()), answer_length(n) + more))
+    out(&format!(
+        "{} {}",
+        to_hex(&fields.pack()),
+        answer_length(n) + more
+    ))
 }
 
 /// A sheet with one to three damages, or rarely none.
-pub fn damaged(chance: &mut Chance, item: usize, ranges: Ranges, out: &mut Out<'_>) -> Result<(), String> {
+pub fn damaged(
+    chance: &mut Chance,
+    item: usize,
+    ranges: Ranges,
+    out: &mut Out<'_>,
+) -> Result<(), String> {
     let n = chance.from(ranges.n.0, ranges.n.1);
     let mut sizes = (n, chance.from(1, 20), chance.from(0, 5));
     // Some wrong sizes come with a body that fits them, so that their number shows alone.
@@ -90,7 +104,12 @@ fn spoil_list(chance: &mut Chance, fields: &mut Fields) {
 }
 
 /// A sheet's fields for these n, k and ka, which may be out of range.
-fn fields(chance: &mut Chance, item: usize, ranges: Ranges, (n, k, ka): (usize, usize, usize)) -> Fields {
+fn fields(
+    chance: &mut Chance,
+    item: usize,
+    ranges: Ranges,
+    (n, k, ka): (usize, usize, usize),
+) -> Fields {
     let matrix = shapes::matrix(chance, shapes::shape(item), n, true);
     let triangle = (0..n).flat_map(|i| matrix[i * n + i + 1..(i + 1) * n].iter().copied());
     Fields {

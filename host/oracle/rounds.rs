@@ -3,7 +3,9 @@
 use crate::checks;
 use crate::script::{number, numbers};
 use crate::tsp::local_search::calls;
-use crate::tsp::{Budget, DistMatrix, greedy_nearest_neighbor, nearest_neighbor_tour, solve_tsp_exact};
+use crate::tsp::{
+    Budget, DistMatrix, greedy_nearest_neighbor, nearest_neighbor_tour, solve_tsp_exact,
+};
 
 /// `N v v v ..` gives `NUMBER blocked: s s .. plain: s s ..`.
 pub fn start(line: &str) -> Result<String, String> {
@@ -19,7 +21,11 @@ pub fn start(line: &str) -> Result<String, String> {
     let dists = DistMatrix::new(n, &matrix);
     let blocked = nearest_neighbor_tour(&dists);
     let plain = greedy_nearest_neighbor(&dists).expect("n is at least 1");
-    Ok(format!("0 blocked:{} plain:{}", stops(&blocked), stops(&plain)))
+    Ok(format!(
+        "0 blocked:{} plain:{}",
+        stops(&blocked),
+        stops(&plain)
+    ))
 }
 
 /// `N TABLEWORDS v v v ..` gives `NUMBER TIME round: s s ..`.
@@ -37,7 +43,11 @@ pub fn exact(line: &str) -> Result<String, String> {
     let round = solve_tsp_exact(&dists, &Budget::new(0, 0))
         .map_err(|error| format!("the exact solver failed: {error}"))?;
     let round: Vec<u32> = round.iter().map(|&stop| stop as u32).collect();
-    Ok(format!("0 {} round:{}", calls::time_of(&dists, &round), stops(&round)))
+    Ok(format!(
+        "0 {} round:{}",
+        calls::time_of(&dists, &round),
+        stops(&round)
+    ))
 }
 
 /// Numbers, each after a space.

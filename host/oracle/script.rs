@@ -67,7 +67,9 @@ impl Session {
             "draw" => lent.draw = number(one(rest)?)?,
             "room" => {
                 let [entries, left] = exactly(rest)?;
-                let words = size(entries)?.saturating_mul(ENTRY).saturating_add(size(left)?);
+                let words = size(entries)?
+                    .saturating_mul(ENTRY)
+                    .saturating_add(size(left)?);
                 lent.journal = vec![0; words];
             }
             "matrix" => {
@@ -193,8 +195,20 @@ impl Session {
     /// Everything after a call or damage, as a JSON object on one line.
     pub fn show(&mut self, line: &str, answer: Answer) -> String {
         let lent = &self.lent;
-        let State { head, count, held, time } = lent.state;
-        let Answer { number, change, gain, units, ended, kicks } = answer;
+        let State {
+            head,
+            count,
+            held,
+            time,
+        } = lent.state;
+        let Answer {
+            number,
+            change,
+            gain,
+            units,
+            ended,
+            kicks,
+        } = answer;
         let call = line.split_whitespace().collect::<Vec<_>>().join(" ");
         let mut text = format!("{{\"call\":\"{call}\"");
         field(&mut text, "number", number);

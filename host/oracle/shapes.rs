@@ -43,7 +43,11 @@ pub fn matrix(chance: &mut Chance, shape: Shape, n: usize, symmetric: bool) -> V
                 _ if i == j => chance.one_of(&[0, 65535, 1, equal]),
                 _ if symmetric && j < i => matrix[j * n + i],
                 Shape::Even | Shape::Clusters => {
-                    let slower = if symmetric { 0.0 } else { chance.below(40) as f64 };
+                    let slower = if symmetric {
+                        0.0
+                    } else {
+                        chance.below(40) as f64
+                    };
                     let (dx, dy) = (points[i].0 - points[j].0, points[i].1 - points[j].1);
                     ((dx * dx + dy * dy).sqrt() + slower).round() as u16
                 }
@@ -73,7 +77,10 @@ fn points(chance: &mut Chance, shape: Shape, n: usize) -> Vec<(f64, f64)> {
     (0..n)
         .map(|_| {
             let (x, y) = chance.one_of(&corners);
-            ((x + chance.below(width)) as f64, (y + chance.below(width)) as f64)
+            (
+                (x + chance.below(width)) as f64,
+                (y + chance.below(width)) as f64,
+            )
         })
         .collect()
 }

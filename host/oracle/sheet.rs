@@ -72,7 +72,9 @@ pub fn answer(sheet: &[u8], room: usize) -> Result<Vec<u8>, u8> {
     if !checks::settings(k, ka, kinds) || seed == 0 {
         return Err(2);
     }
-    if sheet.len() != length(n, k, ka) || !bits.rest_is_zero(16 * n * (n - 1) / 2 + 12 * n * (k + ka)) {
+    if sheet.len() != length(n, k, ka)
+        || !bits.rest_is_zero(16 * n * (n - 1) / 2 + 12 * n * (k + ka))
+    {
         return Err(10);
     }
     if room < answer_length(n) {

@@ -13,7 +13,7 @@ use Rattle.rules.specs.Descend.{kept, committed, Manner, Ran, descend}
 use Rattle.rules.specs.Kicks.{Kicked, Kick, kick, kickedState}
 use Rattle.rules.specs.Exact.{exactRound}
 use Rattle.rules.specs.Table.{tableOf}
-use Rattle.rules.specs.Search.{Settings, Answer, search}
+use Rattle.rules.specs.Search.{Settings, Answer, search, restartAfter, stopAfter}
 use Rattle.rules.specs.Memory.{Lent, Carried, roomIn, planIn, stateIn}
 
 -- the state that is left with its queue's head, the draw state, the legs that a kick added and removed (its signed change is the first
@@ -57,7 +57,7 @@ descendDone l c keeps step budget =
 
 -- "one kick in 16 is global"; the search leaves its best round loaded, so that a single call may follow at once
 unfoldable pub settingsIn : Lent → ℕ → ℕ → Bool → ℕ → ℕ → Settings
-settingsIn l step kind stop budget draw = record { step = step; kind = kind; oneIn = 16; stop = stop; room = roomIn l; budget = budget; draw = draw }
+settingsIn l step kind stop budget draw = record { step = step; kind = kind; oneIn = 16; stop = stop; room = roomIn l; restart = restartAfter l.n; limit = stopAfter l.n; budget = budget; draw = draw }
 
 unfoldable pub searchDone : Lent → ℕ → ℕ → Bool → ℕ → ℕ → Done
 searchDone l step kind stop budget draw =

@@ -26,13 +26,16 @@ restartAfter n = max (3 * n) 3000
 unfoldable pub stopAfter : ℕ → ℕ
 stopAfter n = max (500 * n) 100000
 
--- what a search is told: step kind, kick kind, one kick in so many global, stop flag, journal room, budget, draw state
+-- what a search is told: step kind, kick kind, one kick in so many global, stop flag, journal room, after how many kicks it restarts and
+-- stops, budget, draw state
 pub record Settings : Type 0 where
   pub step : ℕ
   pub kind : ℕ
   pub oneIn : ℕ
   pub stop : Bool
   pub room : ℕ
+  pub restart : ℕ
+  pub limit : ℕ
   pub budget : ℕ
   pub draw : ℕ
 
@@ -114,7 +117,7 @@ module _ (p : Plan) (o : Settings) where
 
   -- a restart where one is due, else a kick
   unfoldable pub turned : Time → Walk → Walk
-  turned slack w = elim (ltb w.walkFails (restartAfter p.n)) [ true ↦ kickedOnce slack w | false ↦ restarted w ]
+  turned slack w = elim (ltb w.walkFails o.restart) [ true ↦ kickedOnce slack w | false ↦ restarted w ]
 
   -- turns until no unit is left or, with the stop flag, it was long enough without a new best. Each turn takes a unit or more, so as much
   -- fuel as units left is enough: that is a law
@@ -124,7 +127,7 @@ module _ (p : Plan) (o : Settings) where
       elim (eqb w.left 0) [
         | true ↦ w
         | false ↦
-            elim (o.stop && leb (stopAfter p.n) w.fails) [ true ↦ w | false ↦ turns slack fuel (turned slack w) ]
+            elim (o.stop && leb o.limit w.fails) [ true ↦ w | false ↦ turns slack fuel (turned slack w) ]
       ]
 
   -- "every stop before a search's first descent", which is committed; "The acceptance margin is fixed after the first descent"

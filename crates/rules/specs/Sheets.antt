@@ -9,7 +9,7 @@ use Rattle.rules.specs.Lists.{if_then_else_, at, rising, each, every}
 use Rattle.rules.specs.Bits.{bits, field, fields, bitsOf, bytesOf}
 use Rattle.rules.specs.Plan.{Plan, nearOf, alphaOf}
 use Rattle.rules.specs.Numbers.{Check, _or_, verdict, within, goodSizes, goodStep, goodList}
-use Rattle.rules.specs.Search.{Settings, Answer, search}
+use Rattle.rules.specs.Search.{Settings, Answer, search, restartAfter, stopAfter}
 
 -- "version 4 (is 1), step kind 2, stop flag 1, n 13, k 5, ka 3, spare 4 (zero); budget 32; seed 64"
 pub record Header : Type 0 where
@@ -77,7 +77,7 @@ planOn h bs =
 
 -- "a sheet means 0" for the kick kind; "A sheet's search has a journal of 512 entries"
 unfoldable pub settingsOn : Header → Settings
-settingsOn h = record { step = h.step; kind = 0; oneIn = 16; stop = eqb h.stop 1; room = 512; budget = h.budget; draw = h.seed }
+settingsOn h = record { step = h.step; kind = 0; oneIn = 16; stop = eqb h.stop 1; room = 512; restart = restartAfter h.n; limit = stopAfter h.n; budget = h.budget; draw = h.seed }
 
 -- "Answer: version 4, ended 2, n 13, spare 13; time 32; units 32; kicks 32; round, 12 each; zero bits"
 unfoldable pub answerBytes : Answer → List ℕ
