@@ -47,22 +47,62 @@ unfoldable pub kickDone : Lent → Carried → ℕ → ℕ → Done
 kickDone l c kind draw =
     let s = stateIn l c in
     let k = kick (legOf (planIn l)) kind draw s.track in
-    record { state = kickedState k.made s; head = c.head; draw = k.draw; added = k.made.added; removed = k.made.removed; gain = 0; units = 0; kicks = 0; ended = 0 }
+    record {
+      state = kickedState k.made s;
+      head = c.head;
+      draw = k.draw;
+      added = k.made.added;
+      removed = k.made.removed;
+      gain = 0;
+      units = 0;
+      kicks = 0;
+      ended = 0;
+    }
 
 -- `keeps` tells a kept descent from a committed one
 unfoldable pub descendDone : Lent → Carried → Bool → ℕ → ℕ → Done
 descendDone l c keeps step budget =
     let g = descend (planIn l) step (if keeps then kept (roomIn l) else committed) budget (stateIn l c) in
-    record { state = g.state; head = 0; draw = 0; added = 0; removed = 0; gain = c.time - g.state.time; units = budget - g.left; kicks = 0; ended = g.ended }
+    record {
+      state = g.state;
+      head = 0;
+      draw = 0;
+      added = 0;
+      removed = 0;
+      gain = c.time - g.state.time;
+      units = budget - g.left;
+      kicks = 0;
+      ended = g.ended;
+    }
 
 -- "one kick in 16 is global"; the search leaves its best round loaded, so that a single call may follow at once
 unfoldable pub settingsIn : Lent → ℕ → ℕ → Bool → ℕ → ℕ → Settings
-settingsIn l step kind stop budget draw = record { step = step; kind = kind; oneIn = 16; stop = stop; room = roomIn l; restart = restartAfter l.n; limit = stopAfter l.n; budget = budget; draw = draw }
+settingsIn l step kind stop budget draw = record {
+  step = step;
+  kind = kind;
+  oneIn = 16;
+  stop = stop;
+  room = roomIn l;
+  restart = restartAfter l.n;
+  limit = stopAfter l.n;
+  budget = budget;
+  draw = draw;
+}
 
 unfoldable pub searchDone : Lent → ℕ → ℕ → Bool → ℕ → ℕ → Done
 searchDone l step kind stop budget draw =
     let a = search (planIn l) (settingsIn l step kind stop budget draw) in
-    record { state = load (recount (legOf (planIn l))) a.round; head = 0; draw = a.draw; added = 0; removed = 0; gain = 0; units = a.units; kicks = a.kicks; ended = a.ended }
+    record {
+      state = load (recount (legOf (planIn l))) a.round;
+      head = 0;
+      draw = a.draw;
+      added = 0;
+      removed = 0;
+      gain = 0;
+      units = a.units;
+      kicks = a.kicks;
+      ended = a.ended;
+    }
 
 -- what the exact solver leaves in the table: the words of the rule, and "words beyond stay"
 unfoldable pub tableLeft : ℕ → List Time → List ℕ → List ℕ

@@ -26,6 +26,7 @@ unfoldable pub verdict : List Check → ℕ
 verdict [] = 0
 verdict (c ∷ cs) = elim c.ok [ true ↦ verdict cs | false ↦ c.number ]
 
+-- from low to high
 unfoldable pub within : ℕ → ℕ → ℕ → Bool
 within low high v = leb low v && leb v high
 
@@ -60,12 +61,20 @@ agree n queue flags head count =
     let q = waiting queue head count in
     ltb head n && leb count n && every (λ v. ltb v n) q && once q && same flags (flagsOf n q)
 
--- 1 to 6. `told` is what else 2 asks of the call, `more` the lengths of what else it is lent, n words each
+-- "a lent length is not what n, k, ka say" is 3; `more` are the lengths of what else is lent, n words each
+unfoldable pub goodLengths : Lent → List ℕ → Bool
+goodLengths l more =
+    eqb (length l.matrix) (l.n * l.n) &&
+    eqb (length l.near) (l.n * l.k) &&
+    eqb (length l.alpha) (l.n * l.ka) &&
+    long l.n (length l.round ∷ length l.places ∷ length l.queue ∷ length l.flags ∷ length l.scratch ∷ more)
+
+-- 1 to 6. `told` is what else 2 asks of the call
 unfoldable pub lentChecks : Lent → Bool → List ℕ → List Check
 lentChecks l told more =
     (within 2 4096 l.n or 1)
     ∷ ((goodSizes l.k l.ka && told) or 2)
-    ∷ ((eqb (length l.matrix) (l.n * l.n) && eqb (length l.near) (l.n * l.k) && eqb (length l.alpha) (l.n * l.ka) && long l.n (length l.round ∷ length l.places ∷ length l.queue ∷ length l.flags ∷ length l.scratch ∷ more)) or 3)
+    ∷ (goodLengths l more or 3)
     ∷ (leb 512 (roomIn l) or 4)
     ∷ (symmetric l.n (legOf (planIn l)) or 5)
     ∷ ((goodList l.n (nearOf (planIn l)) && goodList l.n (alphaOf (planIn l))) or 6)
@@ -74,18 +83,24 @@ lentChecks l told more =
 -- "round no permutation, places no inverse, queue and flags disagree, a journal entry out of range, or carried time not the recount" is 7
 unfoldable pub goodState : Lent → Carried → Bool
 goodState l c =
-    isRound l.n l.round && same l.places (placesOf l.round) && agree l.n l.queue l.flags c.head c.count && goodJournal l.n l.journal c.held && eqb c.time (recount (legOf (planIn l)) l.round)
+    isRound l.n l.round &&
+    same l.places (placesOf l.round) &&
+    agree l.n l.queue l.flags c.head c.count &&
+    goodJournal l.n l.journal c.held &&
+    eqb c.time (recount (legOf (planIn l)) l.round)
 
 -- "Single calls (kick, descent, commit, undo) check 1 to 7 each time"
 unfoldable pub callChecks : Lent → Carried → Bool → List Check
 callChecks l c told = lentChecks l told [] ++ ((goodState l c or 7) ∷ [])
 
+-- commit and undo ask no more
 unfoldable pub commitNumber : Lent → Carried → ℕ
 commitNumber l c = verdict (callChecks l c true)
 
 unfoldable pub undoNumber : Lent → Carried → ℕ
 undoNumber l c = verdict (callChecks l c true)
 
+-- a descent is told its step kind
 unfoldable pub descendNumber : Lent → Carried → ℕ → ℕ
 descendNumber l c step = verdict (callChecks l c (goodStep l.ka step))
 
@@ -108,4 +123,7 @@ startNumber n matrix round = verdict ((within 1 4096 n or 1) ∷ ((eqb (length m
 -- the exact solver: 1, 3, and "exact table under 2^(n-1) times (n-1) words", 4
 unfoldable pub exactNumber : ℕ → List ℕ → Round → List ℕ → ℕ
 exactNumber n matrix round table =
-    verdict ((within 1 25 n or 1) ∷ ((eqb (length matrix) (n * n) && eqb (length round) n) or 3) ∷ (leb (2 ^ (n - 1) * (n - 1)) (length table) or 4) ∷ [])
+    verdict (
+    (within 1 25 n or 1) ∷
+    ((eqb (length matrix) (n * n) && eqb (length round) n) or 3) ∷
+    (leb (2 ^ (n - 1) * (n - 1)) (length table) or 4) ∷ [])

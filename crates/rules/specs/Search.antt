@@ -135,9 +135,26 @@ module _ (p : Plan) (o : Settings) where
   searchFrom r =
       let g = descend p o.step committed o.budget (activated (load (recount (legOf p)) r)) in
       let time = g.state.time in
-      let first : Walk = record { state = g.state; best = g.state.track.round; bestTime = time; walkBest = time; walkFails = 0; fails = 0; kicks = 0; draw = o.draw; left = g.left } in
+      let first : Walk = record {
+        state = g.state;
+        best = g.state.track.round;
+        bestTime = time;
+        walkBest = time;
+        walkFails = 0;
+        fails = 0;
+        kicks = 0;
+        draw = o.draw;
+        left = g.left;
+      } in
       let w = turns (margin p.n time) g.left first in
-      record { round = w.best; time = w.bestTime; units = o.budget - w.left; kicks = w.kicks; ended = if eqb w.left 0 then 1 else 0; draw = w.draw }
+      record {
+        round = w.best;
+        time = w.bestTime;
+        units = o.budget - w.left;
+        kicks = w.kicks;
+        ended = if eqb w.left 0 then 1 else 0;
+        draw = w.draw;
+      }
 
   -- "then loads the start round"
   unfoldable pub search : Answer

@@ -77,12 +77,24 @@ planOn h bs =
 
 -- "a sheet means 0" for the kick kind; "A sheet's search has a journal of 512 entries"
 unfoldable pub settingsOn : Header → Settings
-settingsOn h = record { step = h.step; kind = 0; oneIn = 16; stop = eqb h.stop 1; room = 512; restart = restartAfter h.n; limit = stopAfter h.n; budget = h.budget; draw = h.seed }
+settingsOn h = record {
+  step = h.step;
+  kind = 0;
+  oneIn = 16;
+  stop = eqb h.stop 1;
+  room = 512;
+  restart = restartAfter h.n;
+  limit = stopAfter h.n;
+  budget = h.budget;
+  draw = h.seed;
+}
 
 -- "Answer: version 4, ended 2, n 13, spare 13; time 32; units 32; kicks 32; round, 12 each; zero bits"
 unfoldable pub answerBytes : Answer → List ℕ
 answerBytes a =
-    bytesOf (bits 4 1 ++ (bits 2 a.ended ++ (bits 13 (length a.round) ++ (bits 13 0 ++ (bits 32 a.time ++ (bits 32 a.units ++ (bits 32 a.kicks ++ each (bits 12) a.round)))))))
+    let head = bits 4 1 ++ (bits 2 a.ended ++ (bits 13 (length a.round) ++ bits 13 0)) in
+    let figures = bits 32 a.time ++ (bits 32 a.units ++ bits 32 a.kicks) in
+    bytesOf (head ++ (figures ++ each (bits 12) a.round))
 
 -- the answer's length
 unfoldable pub answerLength : ℕ → ℕ
