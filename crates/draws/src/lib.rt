@@ -29,3 +29,18 @@ pub fn draw(state: &mut u64, low: u32, high: u32) -> u32
     *state = new;
     pick(low, high, new)
 }
+
+// The source of the draws: its state.
+pub struct Draws {
+    pub state: u64,
+}
+
+// A draw from low to high: the lent source is moved on in place.
+pub fn draw_from(source: &mut Draws, low: u32, high: u32) -> u32
+    requires { ⌜ low ≤ high ⌝ }
+    ensures { λ r. ⌜ Drew (now (source .entry) .state) low high (now (source .exit) .state) r ⌝ }
+{
+    let new = step(source.state);
+    source.state = new;
+    pick(low, high, new)
+}
