@@ -64,7 +64,7 @@ kept-right x h =
       some = xor64-some x (x / 2 ^ 7) h (λ same. omega arith);
     }
 
--- "A state other than 0 never becomes 0"
+-- a state other than 0 never becomes 0
 pub moved-kept : (x : ℕ) → x < 2 ^ 64 → Kept x (moved x)
 unfolding moved
 moved-kept x h =

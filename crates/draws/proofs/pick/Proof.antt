@@ -1,9 +1,7 @@
--- The remainder is below the span, so the draw lies from low to high.
-use Prim.Native.Nat.{_+_, _-_}
-use mathlib.Core.Path.{refl}
+-- The draw lies from low to high, so no sum and no cast loses bits.
 use native.Mathlib.Omega.{arith}
-use native.Mathlib.Nat.{mod-lt}
 use Rattle.rules.specs.Draws.{drawn}
+use Rattle.laws.proofs.DrawLaws.{drawn-most}
 use borrow.Author.Needs.{needs}
 use Rattle.draws.proofs.pick.Statement.{statement}
 use Rattle.draws.proofs.pick.Tie as tie
@@ -21,18 +19,20 @@ rem-result : tie.Need-rem-result
 rem-result c = search needs
 
 cast-result : tie.Need-cast-result
-cast-result c = omega (arith, mod-lt (c .args .new) {m = c .args .high - c .args .low + 1} (omega arith))
+unfolding drawn
+cast-result c = omega (arith, drawn-most (c .args .low) (c .args .high) (c .args .new) (c .pre))
 
 add-result : tie.Need-add-result
-add-result c = omega (arith, mod-lt (c .args .new) {m = c .args .high - c .args .low + 1} (omega arith))
+unfolding drawn
+add-result c = omega (arith, drawn-most (c .args .low) (c .args .high) (c .args .new) (c .pre))
 
 returns : tie.Need-returns
 unfolding drawn
 returns c =
     record {
-      is = cc;
+      is = omega arith;
       least = omega arith;
-      most = omega (arith, mod-lt (c .args .new) {m = c .args .high - c .args .low + 1} (omega arith));
+      most = omega (arith, drawn-most (c .args .low) (c .args .high) (c .args .new) (c .pre));
     }
 
 pub pick-spec : {M : Type 1} → statement M

@@ -9,8 +9,8 @@ returns : tie.Need-returns
 returns c =
     let fits : c .args .x < 2 ^ 64 = omega arith in
     record {
-      is = cc (moved-is (c .args .x) fits);
-      some = λ p. rw (moved-is (c .args .x) fits) at (moved-kept (c .args .x) fits .some p);
+      is = omega (arith, moved-is (c .args .x) fits);
+      some = λ p. omega (arith, moved-is (c .args .x) fits, moved-kept (c .args .x) fits .some p);
     }
 
 pub step-spec : {M : Type 1} → statement M
