@@ -2,7 +2,7 @@
 use Prim.Native.Nat.{ℕ, _+_, _≤_, _<_, min}
 use mathlib.Core.Path.{_≡_, ap, _∙_}
 use mathlib.Core.List.{List}
-use mathlib.Core.Logic.{_⊎_, inl, inr, ⊎-elim}
+use mathlib.Core.Logic.{⊎-elim}
 use native.Mathlib.Omega.{arith}
 use native.Mathlib.Decide.{decLt}
 use lib.Bits.{bitOr, or-zero-r, or-add-and, and-mask}
@@ -17,8 +17,8 @@ module _ (f : Stop → Time) where
   pub lowest-start : (i : ℕ) → Lowest f i i 65535
   lowest-start i = record { top = omega arith; least = λ v low high. absurd (omega arith); hit = λ h. absurd (omega arith) }
 
-  pub lowest-next : (i j x x′ : ℕ) → i ≤ j → x′ ≡ min x (f j) → Lowest f i j x → Lowest f i (j + 1) x′
-  lowest-next i j x x′ l e h =
+  pub lowest-next : {i j x x′ : ℕ} → i ≤ j → x′ ≡ min x (f j) → Lowest f i j x → Lowest f i (j + 1) x′
+  lowest-next {i} {j} {x} {x′} l e h =
       record {
         top = omega (arith, h .top);
         least = λ v low high. one-more (λ (u : Stop). x′ ≤ f u) j (omega arith) v high (λ high′. omega (arith, h .least v low high′));
@@ -43,7 +43,7 @@ module _ (f : Stop → Time) where
   blocks-start =
       record { top = omega arith; least = λ v h. absurd (omega arith); inside = omega arith; hit = λ h. absurd (omega arith); first = λ v h. absurd (omega arith) }
 
-  module _ (i best start end e x : ℕ) (b : Blocks i best start end) (l : Lowest f i e x) (h : i < e) where
+  module _ {i best start end e x : ℕ} (b : Blocks i best start end) (l : Lowest f i e x) (h : i < e) where
     both : (y : ℕ) → y ≤ best → y ≤ x → (v : Stop) → v < e → y ≤ f v
     both y p q v z = go (decLt v i)
       where
@@ -84,11 +84,11 @@ module _ (row mask : List ℕ) where
   masked-gone v z h = ap (bitOr (at row v)) z ∙ omega (arith, or-add-and (at row v) 65535, and-mask (at row v) 16)
 
   -- after the last block
-  module _ (n : ℕ) (m : Mask n mask) (short : (v : Stop) → at row v ≤ 65535) (i best start end : ℕ)
+  module _ {n : ℕ} (m : Mask n mask) (short : (v : Stop) → at row v ≤ 65535) {i best start end : ℕ}
       (b : Blocks (masked row mask) i best start end) (l : n ≤ i) (h : i ≤ n) where
     -- the first stop of the first block that has the least of all is the nearest
-    pub by-blocks : (k : Stop) → best < 65535 → First (masked row mask) start end best k → Nearest (at row) n mask k
-    by-blocks k s p = ⊎-elim
+    pub by-blocks : {k : Stop} → best < 65535 → First (masked row mask) start end best k → Nearest (at row) n mask k
+    by-blocks {k} s p = ⊎-elim
         (λ z. let e = masked-left k z in
         record {
           below = below;
@@ -109,8 +109,8 @@ module _ (row mask : List ℕ) where
             omega (arith, b .least v (omega (arith, below)))
 
     -- where all stops left are at 65535, the first of them is the nearest
-    pub by-none : (k : Stop) → best ≡ 65535 → First (at mask) 0 n 0 k → Nearest (at row) n mask k
-    by-none k e p =
+    pub by-none : {k : Stop} → best ≡ 65535 → First (at mask) 0 n 0 k → Nearest (at row) n mask k
+    by-none {k} e p =
         record {
           below = p .high;
           free = p .is;

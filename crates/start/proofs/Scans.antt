@@ -23,13 +23,13 @@ module _ (f : Stop → Time) (mask : List ℕ) where
     none : best ≡ 65536 → ((v : Stop) → v < j → at mask v ≡ 0 → ⊥) → Scanned j best so
     some : f so ≡ best → Nearest f j mask so → Scanned j best so
 
-  pub scanned-start : Scanned 0 65536 0
-  scanned-start = none (omega arith) (λ v h z. absurd (omega arith))
+  pub scanned-start : {best so : ℕ} → best ≡ 65536 → Scanned 0 best so
+  scanned-start e = none e (λ v h z. absurd (omega arith))
 
   pub scanned-as : {j best so best′ so′ : ℕ} → best′ ≡ best → so′ ≡ so → Scanned j best so → Scanned j best′ so′
   scanned-as e e′ x = rw (e, e′) x
 
-  module _ (j best so : ℕ) where
+  module _ {j best so : ℕ} where
     pub scanned-visited : (at mask j ≡ 0 → ⊥) → Scanned j best so → Scanned (j + 1) best so
     scanned-visited h (none e x) = none e (λ v l. one-more (λ (u : Stop). at mask u ≡ 0 → ⊥) j h v l (x v))
     scanned-visited h (some e x) =

@@ -92,7 +92,8 @@ fn first_left(n: usize, mask: &[u16]) -> Stop
 {
     let mut j: usize = 0;
     while j < n {
-        if mask[j] == 0 {
+        let flag = mask[j];
+        if flag == 0 {
             return Stop(j as u32);
         }
         j += 1;
@@ -113,9 +114,9 @@ fn nearest_by_blocks(row: &[u16], mask: &[u16]) -> Stop
     let mut i: usize = 0;
     while i < n {
         let e = block_end(i, n);
-        let v = lowest(row, mask, i, e);
-        if v < best {
-            best = v;
+        let least = lowest(row, mask, i, e);
+        if least < best {
+            best = least;
             start = i;
             end = e;
         }

@@ -1,72 +1,54 @@
-use Prim.Native.Nat.{ℕ, _+_, _-_, _*_, _<_, _≤_, min}
-use mathlib.Core.Path.{_≡_, refl, sym, ap, _∙_, subst}
+use Prim.Native.Nat.{_-_, _≤_}
 use native.Mathlib.Omega.{arith}
-use lib.ListN.{length}
-use borrow.Author.Needs.{needs}
-use Rattle.rules.specs.Words.{Stop}
-use Rattle.rules.specs.Lists.{at}
-use mathlib.Core.Logic.{⊎-elim}
 use Rattle.start.specs.Mask.{masked}
 use Rattle.start.proofs.Blocks.{Missed, missed-start, missed-next, missed-all}
 use Rattle.start.proofs.first_at.Statement.{statement}
 use Rattle.start.proofs.first_at.Tie as tie
-use Rattle.start.proofs.first_at.Reads as reads
-use Rattle.start.proofs.first_at.Lts as lts
 
+-- none from stop i on and before stop j is at v
 abbrev Inv-loop : tie.InvT-loop
 Inv-loop row mask i e v j₀ j = (i ≤ j) × Missed (masked row mask) i v j
 
 abbrev μ-loop : tie.MeasureT-loop
 μ-loop row mask i e v j₀ j = e - j
 
--- src/lib.rt:75:5
 loop-holds : tie.Need-loop-holds Inv-loop μ-loop
-loop-holds c = (omega arith, missed-start (masked ((c .args) .row .now) ((c .args) .mask .now)) ((c .args) .i) ((c .args) .v))
+loop-holds c = (omega arith, missed-start (masked (c .args .row .now) (c .args .mask .now)) (c .args .i) (c .args .v))
 
--- src/lib.rt:76:17
 mul-x : tie.Need-mul-x Inv-loop μ-loop
-mul-x c = omega (arith, (c .before .before .pre) .0 .few)
+mul-x c = omega (arith, c .before .before .pre .0 .few)
 
--- src/lib.rt:76:17
 shared-slice-read-x : tie.Need-shared-slice-read-x Inv-loop μ-loop
 shared-slice-read-x c = omega arith
 
--- src/lib.rt:76:26
 mul-x-2 : tie.Need-mul-x-2 Inv-loop μ-loop
-mul-x-2 c = omega (arith, (c .before .before .before .pre) .0 .few)
+mul-x-2 c = omega (arith, c .before .before .before .pre .0 .few)
 
--- src/lib.rt:76:26
 shared-slice-read-x-2 : tie.Need-shared-slice-read-x-2 Inv-loop μ-loop
-shared-slice-read-x-2 c = omega (arith, (c .before .before .before .before .pre) .0 .room)
+shared-slice-read-x-2 c = omega (arith, c .before .before .before .before .pre .0 .room)
 
--- src/lib.rt:78:25
 cast-t15 : tie.Need-cast-t15 Inv-loop μ-loop
-cast-t15 c = omega (arith, (c .before .before .before .before .before .pre) .0 .few)
+cast-t15 c = omega (arith, c .before .before .before .before .before .pre .0 .few)
 
--- src/lib.rt:78:13
 returns : tie.Need-returns Inv-loop μ-loop
 unfolding masked
 returns c = let l = (c .before .before .before .before .loop) in
     record { low = l .inv .0; high = omega arith; is = omega arith; before = l .inv .1 }
 
--- src/lib.rt:80:9
 add-j : tie.Need-add-j Inv-loop μ-loop
 add-j c = omega arith
 
--- src/lib.rt:75:5
 loop-less : tie.Need-loop-less Inv-loop μ-loop
 loop-less c = omega arith
 
--- src/lib.rt:75:5
 loop-again : tie.Need-loop-again Inv-loop μ-loop
 unfolding masked
 loop-again c = let l = (c .before .before .before .before .loop) in
-    (omega arith, missed-next (masked ((c .before .before .before .before .before .args) .row .now) ((c .before .before .before .before .before .args) .mask .now)) ((c .before .before .before .before .before .args) .i) ((c .before .before .before .before .before .args) .v) (l .j) (l .inv .1) (λ z. omega arith))
+    (omega arith, missed-next (masked (c .before .before .before .before .before .args .row .now) (c .before .before .before .before .before .args .mask .now)) (c .before .before .before .before .before .args .i) (c .before .before .before .before .before .args .v) (l .j) (l .inv .1) (λ z. omega arith))
 
--- src/lib.rt:68:1
 returns-2 : tie.Need-returns-2 Inv-loop μ-loop
 returns-2 c = let l = (c .before .loop) in
-    absurd (missed-all (masked ((c .before .before .args) .row .now) ((c .before .before .args) .mask .now)) ((c .before .before .args) .i) ((c .before .before .args) .v) (l .j) ((c .before .before .args) .e) (l .inv .1) (omega arith) ((c .before .before .pre) .1 .1))
+    absurd (missed-all (masked (c .before .before .args .row .now) (c .before .before .args .mask .now)) (c .before .before .args .i) (c .before .before .args .v) (l .j) (c .before .before .args .e) (l .inv .1) (omega arith) (c .before .before .pre .1 .1))
 
 pub first-at-spec : {M : Type 1} → statement M
 first-at-spec =
