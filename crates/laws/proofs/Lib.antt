@@ -1,3 +1,4 @@
 pub mod CellLaws
 pub mod DrawLaws
 pub mod ExactLaws
+pub mod StartLaws

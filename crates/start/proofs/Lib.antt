@@ -1,0 +1,4 @@
+pub mod Scans
+pub mod Blocks
+pub mod Walks
+pub mod Coincide
