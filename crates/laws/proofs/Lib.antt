@@ -1,2 +1,6 @@
 pub mod CellLaws
 pub mod ExactLaws
+pub mod ChoiceLaws
+pub mod TurnLaws
+pub mod RewriteLaws
+pub mod JournalLaws
