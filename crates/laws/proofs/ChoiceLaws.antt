@@ -29,6 +29,11 @@ pub and-true : (a b : Bool) → (a && b) ≡ true → (a ≡ true) × (b ≡ tru
 and-true true b e = (refl, e)
 and-true false b e = absurd (true-false (sym e))
 
+-- the same of a test that is only made where another holds
+pub both-true : (a b : Bool) → (if a then b else false) ≡ true → (a ≡ true) × (b ≡ true)
+both-true true b e = (refl, e)
+both-true false b e = absurd (true-false (sym e))
+
 pub nor-true : (a b : Bool) → not (a || b) ≡ true → (a ≡ false) × (b ≡ false)
 nor-true true b e = absurd (true-false (sym e))
 nor-true false true e = absurd (true-false (sym e))

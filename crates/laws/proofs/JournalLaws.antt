@@ -8,8 +8,9 @@ use lib.Dec.{leb, ltb}
 use lib.ListN.{length, length-append}
 use borrow.Author.Tests.{leb-true, ltb-true}
 use Rattle.rules.specs.Journal.{Entry, Track, carryOut, doing, inRange, reversal, rollback, rotation, swap, takeBack, undoAll}
+use Rattle.rules.specs.Lists.{every}
 use Rattle.rules.specs.Words.{Round}
-use Rattle.laws.proofs.ChoiceLaws.{and-true}
+use Rattle.laws.proofs.ChoiceLaws.{and-true, both-true}
 use Rattle.laws.proofs.RewriteLaws.{reverseAt-length, reverseAt-undone, rotateAt-length, rotateAt-undone, swapAt-length, swapAt-undone}
 
 pub carryOut-length : (e : Entry) (r : Round) → length (carryOut e r) ≡ length r
@@ -69,13 +70,26 @@ pub past-doing : (e : Entry) (t : Track) → inRange (length (t .round)) e ≡ t
 unfolding doing undoAll
 past-doing e t h = record { newer = e ∷ []; grown = refl; back = takeBack-carryOut e (t .round) h }
 
--- the journal has no less
-pub past-grown : {t t′ : Track} → Past t t′ → length (t .journal) ≤ length (t′ .journal)
-past-grown {t} {t′} p = omega (arith, ap length (p .grown), length-append (p .newer) (t .journal))
-
 -- the round keeps its length
 pub past-length : {t t′ : Track} → Past t t′ → length (t′ .round) ≡ length (t .round)
 past-length {t} {t′} p = sym (undoAll-length (p .newer) (t′ .round)) ∙ ap length (p .back)
+
+-- any entries in range, newest first
+unfoldable pub doingAll : List Entry → Track → Track
+doingAll [] t = t
+doingAll (e ∷ es) t = doing e (doingAll es t)
+
+pub past-doingAll : (es : List Entry) (t : Track) → every (inRange (length (t .round))) es ≡ true → Past t (doingAll es t)
+unfolding doingAll every
+past-doingAll [] t h = past-refl t
+past-doingAll (e ∷ es) t h =
+    let g = both-true (inRange (length (t .round)) e) (every (inRange (length (t .round))) es) h in
+    let p = past-doingAll es t (g .1) in
+    past-past p (past-doing e (doingAll es t) (ap (λ n. inRange n e) (past-length p) ∙ g .0))
+
+-- the journal has no less
+pub past-grown : {t t′ : Track} → Past t t′ → length (t .journal) ≤ length (t′ .journal)
+past-grown {t} {t′} p = omega (arith, ap length (p .grown), length-append (p .newer) (t .journal))
 
 -- ---- `rollback`
 rollback-step : (mark : ℕ) (e : Entry) (l : List Entry) (r : Round) → mark ≤ length l
