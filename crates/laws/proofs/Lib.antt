@@ -6,3 +6,6 @@ pub mod TurnLaws
 pub mod RewriteLaws
 pub mod JournalLaws
 pub mod TallyLaws
+pub mod PlaceLaws
+pub mod PermLaws
+pub mod TiedLaws
