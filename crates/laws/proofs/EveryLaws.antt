@@ -98,3 +98,8 @@ rising-at (suc count) a (suc i) h = omega (arith, rising-at count (a + 1) i (ome
 -- ---- every stop of a list is below n
 abbrev pub Below : ℕ → List Stop → Type 0
 Below n l = All (λ v. v < n) l
+
+pub below-at : (n : ℕ) (l : List Stop) → Below n l → (i : ℕ) → i < length l → at l i < n
+below-at n [] b i h = absurd (omega arith)
+below-at n (x ∷ l) (more k b) zero h = k
+below-at n (x ∷ l) (more k b) (suc i) h = below-at n l b i (omega arith)

@@ -9,3 +9,5 @@ pub mod TallyLaws
 pub mod PlaceLaws
 pub mod PermLaws
 pub mod TiedLaws
+pub mod TimeLaws
+pub mod EvenLaws

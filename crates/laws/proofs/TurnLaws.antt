@@ -45,6 +45,17 @@ on-mod n k i hk hi = elim (decLt (k + i) n) [
       let e : (k + i) % n ≡ k + i - n = mod-eq-sub-mod l ∙ mod-eq-of-lt m in high l (omega arith))
 ]
 
+-- two places that are i and j steps after s: how far one is after the other
+pub on-from : (n : ℕ) (s : Place) (i j m : ℕ) (p q : Place) → s < n → i < n → j < n → m < n → On n s i p → On n s j q → On n j m i → On n q m p
+on-from n s i j m p q hs hi hj hm (low a e) (low b f) (low c g) = low (omega arith) (omega arith)
+on-from n s i j m p q hs hi hj hm (low a e) (low b f) (high c g) = high (omega arith) (omega arith)
+on-from n s i j m p q hs hi hj hm (low a e) (high b f) (low c g) = absurd (omega arith)
+on-from n s i j m p q hs hi hj hm (low a e) (high b f) (high c g) = low (omega arith) (omega arith)
+on-from n s i j m p q hs hi hj hm (high a e) (low b f) (low c g) = high (omega arith) (omega arith)
+on-from n s i j m p q hs hi hj hm (high a e) (low b f) (high c g) = absurd (omega arith)
+on-from n s i j m p q hs hi hj hm (high a e) (high b f) (low c g) = low (omega arith) (omega arith)
+on-from n s i j m p q hs hi hj hm (high a e) (high b f) (high c g) = high (omega arith) (omega arith)
+
 -- element i of the ring read from place k stands i steps after it
 pub turn-on : (k i p : ℕ) (r : Round) → k ≤ length r → i < length r → On (length r) k i p → at (turn k r) i ≡ at r p
 unfolding turn
