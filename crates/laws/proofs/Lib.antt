@@ -11,3 +11,4 @@ pub mod PermLaws
 pub mod TiedLaws
 pub mod TimeLaws
 pub mod EvenLaws
+pub mod StretchLaws
