@@ -12,3 +12,5 @@ pub mod TiedLaws
 pub mod TimeLaws
 pub mod EvenLaws
 pub mod StretchLaws
+pub mod SegmentLaws
+pub mod WindowLaws
