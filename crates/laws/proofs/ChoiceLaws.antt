@@ -38,3 +38,11 @@ pub nor-true : (a b : Bool) → not (a || b) ≡ true → (a ≡ false) × (b �
 nor-true true b e = absurd (true-false (sym e))
 nor-true false true e = absurd (true-false (sym e))
 nor-true false false e = (refl, refl)
+
+pub or-false : (a : Bool) → (a || false) ≡ a
+or-false true = refl
+or-false false = refl
+
+pub or-true : (a : Bool) → (a || true) ≡ true
+or-true true = refl
+or-true false = refl

@@ -1,12 +1,11 @@
 -- Lists whose every element has a property, as facts and as tests; scans keep it.
-use Prim.Native.Nat.{_+_, _<_, _≤_, suc, zero, ℕ}
-use mathlib.Core.Path.{_≡_, ap, refl, subst}
+use Prim.Native.Nat.{_<_, suc, zero, ℕ}
+use mathlib.Core.Path.{_≡_, refl}
 use mathlib.Core.Bool.{Bool, true}
 use mathlib.Core.List.{List, [], _++_, _∷_}
-use native.Mathlib.Decide.{ℕ-discrete}
 use native.Mathlib.Omega.{arith}
 use lib.ListN.{drop, length, take}
-use Rattle.rules.specs.Lists.{at, each, every, keep, keepWhile, rising}
+use Rattle.rules.specs.Lists.{at, each, every, keep, keepWhile}
 use Rattle.rules.specs.Words.{Stop}
 use Rattle.laws.proofs.ChoiceLaws.{both-true, either-if}
 
@@ -70,30 +69,6 @@ pub all-every : {A : Type 0} (p : A → Bool) (l : List A) → All (λ x. p x �
 unfolding every
 all-every p [] none = refl
 all-every p (x ∷ l) (more h a) = rw (h, every) (all-every p l a)
-
--- of the numbers from a on, `count` of them
-pub every-rising : (p : ℕ → Bool) (count a : ℕ) → every p (rising count a) ≡ true → (v : ℕ) → a ≤ v → v < a + count → p v ≡ true
-unfolding every rising
-every-rising p zero a e v h k = absurd (omega arith)
-every-rising p (suc count) a e v h k =
-    let g = both-true (p a) (every p (rising count (a + 1))) e in
-    elim (ℕ-discrete a v) [ yes q ↦ subst (λ w. p w ≡ true) q (g .0) | no q ↦ every-rising p count (a + 1) (g .1) v (omega arith) (omega arith) ]
-
-pub rising-every : (p : ℕ → Bool) (count a : ℕ) → ((v : ℕ) → a ≤ v → v < a + count → p v ≡ true) → every p (rising count a) ≡ true
-unfolding every rising
-rising-every p zero a h = refl
-rising-every p (suc count) a h = rw (h a (omega arith) (omega arith), every) (rising-every p count (a + 1) (λ v l k. h v (omega arith) (omega arith)))
-
-pub rising-length : (count a : ℕ) → length (rising count a) ≡ count
-unfolding rising
-rising-length zero a = refl
-rising-length (suc count) a = ap suc (rising-length count (a + 1))
-
-pub rising-at : (count a i : ℕ) → i < count → at (rising count a) i ≡ a + i
-unfolding rising
-rising-at zero a i h = absurd (omega arith)
-rising-at (suc count) a zero h = omega arith
-rising-at (suc count) a (suc i) h = omega (arith, rising-at count (a + 1) i (omega arith))
 
 -- ---- every stop of a list is below n
 abbrev pub Below : ℕ → List Stop → Type 0

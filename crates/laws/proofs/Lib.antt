@@ -2,6 +2,7 @@ pub mod CellLaws
 pub mod ExactLaws
 pub mod ChoiceLaws
 pub mod EveryLaws
+pub mod RisingLaws
 pub mod TurnLaws
 pub mod RewriteLaws
 pub mod JournalLaws
@@ -14,3 +15,5 @@ pub mod EvenLaws
 pub mod StretchLaws
 pub mod SegmentLaws
 pub mod WindowLaws
+pub mod QueueLaws
+pub mod WaitLaws

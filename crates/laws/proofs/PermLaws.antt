@@ -14,8 +14,9 @@ use Rattle.rules.specs.Lists.{at, every, has, if_then_else_, once, one, rising,
 use Rattle.rules.specs.Ring.{isRound, place}
 use Rattle.rules.specs.Words.{Place, Round, Stop}
 use Rattle.laws.proofs.ChoiceLaws.{and-true, either-if}
-use Rattle.laws.proofs.EveryLaws.{Below, every-rising, more, none, rising-every}
+use Rattle.laws.proofs.EveryLaws.{Below, more, none}
 use Rattle.laws.proofs.PlaceLaws.{place-at, tally-at}
+use Rattle.laws.proofs.RisingLaws.{every-rising, rising-every}
 use Rattle.laws.proofs.TallyLaws.{one-other, one-same}
 
 -- no stop twice, every stop below n, none beyond

@@ -1,39 +1,30 @@
 -- 01, number 7, "places its inverse": the round determines its places, and stops are read off them.
-use Prim.Native.Nat.{_<_, _≤_, suc, zero, ℕ}
-use mathlib.Core.Path.{_∙_, _≡_, ap, refl, subst, sym}
+use Prim.Native.Nat.{_<_, _≤_, suc, ℕ}
+use mathlib.Core.Path.{_∙_, _≡_, ap, subst, sym}
 use mathlib.Core.Bool.{Bool, false, true}
-use mathlib.Core.List.{List, [], _∷_, map}
+use mathlib.Core.List.{List, [], _∷_}
 use native.Mathlib.Decide.{decLt, ℕ-discrete}
-use native.Mathlib.Nat.{zero-add}
 use native.Mathlib.Omega.{arith}
 use lib.ListN.{length}
 use lib.Seq.{ext-getD}
 use Rattle.rules.specs.Contracts.{Tied}
-use Rattle.rules.specs.Lists.{at, has, if_then_else_, once, rising, tally}
+use Rattle.rules.specs.Lists.{at, has, if_then_else_, once, tally}
 use Rattle.rules.specs.Ring.{between, isRound, next, onWay, place, placesOf, pred, prev, succ}
 use Rattle.rules.specs.Words.{Place, Round, Stop}
-use Rattle.laws.proofs.EveryLaws.{rising-at, rising-length}
+use Rattle.laws.proofs.EvenLaws.{back}
 use Rattle.laws.proofs.PermLaws.{Perm, perm-at, perm-place, perm-round, round-length, round-perm}
 use Rattle.laws.proofs.PlaceLaws.{at-place, next-below, place-below, prev-below, tally-at}
+use Rattle.laws.proofs.RisingLaws.{table-at, table-length}
 use Rattle.laws.proofs.TallyLaws.{one-other, one-same}
 
 -- the table of places
 pub placesOf-length : (r : Round) → length (placesOf r) ≡ length r
 unfolding placesOf
-placesOf-length r = map-length (place r) (rising (length r) 0) ∙ rising-length (length r) 0
-  where
-    map-length : (f : ℕ → ℕ) (l : List ℕ) → length (map f l) ≡ length l
-    map-length f [] = refl
-    map-length f (x ∷ l) = ap suc (map-length f l)
+placesOf-length r = table-length (place r) (length r)
 
 pub placesOf-at : (r : Round) (v : Stop) → v < length r → at (placesOf r) v ≡ place r v
 unfolding placesOf
-placesOf-at r v h = map-at (place r) (rising (length r) 0) v (omega (arith, rising-length (length r) 0)) ∙ ap (place r) (rising-at (length r) 0 v h ∙ zero-add v)
-  where
-    map-at : (f : ℕ → ℕ) (l : List ℕ) (i : ℕ) → i < length l → at (map f l) i ≡ f (at l i)
-    map-at f [] i h = absurd (omega arith)
-    map-at f (x ∷ l) zero h = refl
-    map-at f (x ∷ l) (suc i) h = map-at f l i (omega arith)
+placesOf-at r v h = table-at (place r) (length r) v h
 
 -- a round of at most 4096 stops is tied to its places
 pub round-tied : (n : ℕ) (r : Round) → isRound n r ≡ true → n ≤ 4096 → Tied r (placesOf r)
