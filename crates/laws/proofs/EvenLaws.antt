@@ -5,7 +5,6 @@ use mathlib.Core.List.{List, [], _++_, _∷_, reverse, reverse-cons}
 use native.Mathlib.Omega.{arith}
 use lib.ListN.{List·getD-append, drop, length, length-append, length-drop, length-reverse, take, take-append-drop}
 use lib.Seq.{getD-append-add, getD-append-seam, length-take-le}
-use borrow.Fn.PlainCycle.{is}
 use Rattle.rules.specs.Lists.{at}
 use Rattle.rules.specs.Rewrite.{reverseAt, reverseFront}
 use Rattle.rules.specs.Ring.{along, recount, turn}

@@ -17,3 +17,7 @@ pub mod SegmentLaws
 pub mod WindowLaws
 pub mod QueueLaws
 pub mod WaitLaws
+pub mod ReadLaws
+pub mod SpotLaws
+pub mod FlipLaws
+pub mod OrMoveLaws

@@ -8,7 +8,6 @@ use native.Mathlib.Omega.{arith}
 use lib.Dec.{eqb}
 use lib.ListN.{length, length-append}
 use borrow.Author.Tests.{eqb-false, eqb-true, not-true}
-use borrow.Fn.PlainCycle.{is}
 use Rattle.rules.specs.Lists.{has, if_then_else_, once, one, tally}
 use Rattle.rules.specs.Queue.{push, pushAll}
 use Rattle.rules.specs.Words.{Stop}
