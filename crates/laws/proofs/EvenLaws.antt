@@ -1,34 +1,24 @@
 -- Where legs between stops below n take as long as their return: a reversal takes two legs away and brings two, whichever side is turned.
-use Prim.Native.Nat.{_+_, _-_, _<_, suc, ℕ}
+use Prim.Native.Nat.{_+_, _-_, _<_, ℕ}
 use mathlib.Core.Path.{_∙_, _≡_, ap, ap₂, refl, sym}
-use mathlib.Core.List.{List, [], _++_, _∷_, reverse, reverse-cons}
+use mathlib.Core.List.{List, [], _++_, _∷_, reverse}
 use native.Mathlib.Omega.{arith}
-use lib.ListN.{List·getD-append, drop, length, length-append, length-drop, length-reverse, take, take-append-drop}
+use lib.ListN.{List·getD-append, drop, length, length-append, length-drop, take, take-append-drop}
 use lib.Seq.{getD-append-add, getD-append-seam, length-take-le}
 use Rattle.rules.specs.Lists.{at}
 use Rattle.rules.specs.Rewrite.{reverseAt, reverseFront}
-use Rattle.rules.specs.Ring.{along, recount, turn}
+use Rattle.rules.specs.Ring.{along, lap, recount, turn}
 use Rattle.rules.specs.Words.{Legs, Place, Round, Stop}
 use Rattle.laws.proofs.EveryLaws.{Below, all-drop, all-join, all-take, below-at, more}
-use Rattle.laws.proofs.TimeLaws.{along-join, end, end-at, end-join, from-time, ring1, ring2, turn-time}
+use Rattle.laws.proofs.TimeLaws.{along-back, back, end, end-at, from-time, returned, ring1, ring2, turn-time}
 use Rattle.laws.proofs.TurnLaws.{On, on-below, on-from, turn-length, turn-on}
 
 -- equal times both ways, between stops below n
 abbrev pub Even : Legs → ℕ → Type 0
 Even d n = (a b : Stop) → a < n → b < n → d a b ≡ d b a
 
--- a list that begins with a, read backwards
-pub record Back (a : Stop) (A : List Stop) : Type 0 where
-  pub tail : List Stop
-  pub is : reverse (a ∷ A) ≡ end a A ∷ tail
-  pub ends : end (end a A) tail ≡ a
-
-pub back : (a : Stop) (A : List Stop) → Back a A
-unfolding end
-back a [] = record { tail = []; is = refl; ends = refl }
-back a (x ∷ A) =
-    let h = back x A in
-    record { tail = h.tail ++ (a ∷ []); is = reverse-cons a (x ∷ A) ∙ ap (λ l. l ++ (a ∷ [])) h.is; ends = end-join (end x A) h.tail a [] }
+pub below-head : (n : ℕ) (a : Stop) (A : List Stop) → Below n (a ∷ A) → a < n
+below-head n a A (more h b) = h
 
 pub below-end : (n : ℕ) (a : Stop) (A : List Stop) → Below n (a ∷ A) → end a A < n
 unfolding end
@@ -36,25 +26,20 @@ below-end n a [] (more h b) = h
 below-end n a (x ∷ A) (more h b) = below-end n x A b
 
 module _ (d : Legs) (n : ℕ) (even : Even d n) where
-  -- a path takes as long backwards
-  pub path-reverse : (a : Stop) (A : List Stop) → Below n (a ∷ A) → along d (end a A) (back a A .tail) ≡ along d a A
-  unfolding along end back
-  path-reverse a [] (more h b) = refl
-  path-reverse a (x ∷ A) (more h (more k b)) =
-      let g = back x A in
-      omega (arith, along-join d (end x A) g.tail a [], path-reverse x A (more k b), ap (λ v. d v a) g.ends, even x a k h)
+  -- a path takes as long as the returns of its legs
+  along-even : (a : Stop) (A : List Stop) → Below n (a ∷ A) → along (returned d) a A ≡ along d a A
+  unfolding along returned
+  along-even a [] (more h b) = refl
+  along-even a (x ∷ A) (more h (more k b)) = omega (arith, along-even x A (more k b), even x a k h)
 
   -- and so does a round
-  pub recount-reverse : (r : Round) → Below n r → recount d (reverse r) ≡ recount d r
-  recount-reverse [] b = refl
-  recount-reverse (a ∷ []) b = refl
-  recount-reverse (a ∷ x ∷ A) (more h b) =
-      let g = back a (x ∷ A) in
+  pub recount-even : (r : Round) → Below n r → recount (returned d) r ≡ recount d r
+  unfolding returned recount lap
+  recount-even [] b = refl
+  recount-even (a ∷ []) b = refl
+  recount-even (a ∷ x ∷ A) (more h b) =
       let z = end a (x ∷ A) in
-      let hz : z < n = below-end n a (x ∷ A) (more h b) in
-      let l : length (z ∷ g.tail) ≡ suc (suc (length A)) = sym (ap length g.is) ∙ length-reverse (a ∷ x ∷ A) in
-      let e : recount d (reverse (a ∷ x ∷ A)) ≡ recount d (z ∷ g.tail) = ap (recount d) g.is in
-      omega (arith, e, ring1 d z g.tail (omega arith), ring1 d a (x ∷ A) (omega arith), path-reverse a (x ∷ A) (more h b), ap (λ v. d v z) g.ends, even a z h hz)
+      omega (arith, ring1 (returned d) a (x ∷ A) (omega arith), ring1 d a (x ∷ A) (omega arith), along-even a (x ∷ A) (more h b), even a z h (below-end n a (x ∷ A) (more h b)))
 
   -- M W to M reversed, W
   pub reverse-time : (a : Stop) (A : List Stop) (b : Stop) (B : List Stop) → Below n (a ∷ A)
@@ -62,7 +47,7 @@ module _ (d : Legs) (n : ℕ) (even : Even d n) where
   reverse-time a A b B low =
       let h = back a A in
       let e : recount d (reverse (a ∷ A) ++ (b ∷ B)) ≡ recount d ((end a A ∷ h.tail) ++ (b ∷ B)) = ap (λ l. recount d (l ++ (b ∷ B))) h.is in
-      omega (arith, e, ring2 d (end a A) h.tail b B, ring2 d a A b B, path-reverse a A low, ap (λ v. d v b) h.ends)
+      omega (arith, e, ring2 d (end a A) h.tail b B, ring2 d a A b B, along-back d a A, along-even a A low, ap (λ v. d v b) h.ends)
 
   -- the same of two parts by their first and last stops
   parts-time : (M W : List Stop) → 0 < length M → 0 < length W → Below n M

@@ -17,13 +17,12 @@ use Rattle.rules.specs.Rewrite.{Stretch, from, lenOf, reverseAt, reverseFront, 
 use Rattle.rules.specs.Ring.{ahead, behind, next, place, pred, prev, succ}
 use Rattle.rules.specs.Words.{Round, Stop}
 use Rattle.laws.proofs.ChoiceLaws.{either-way}
-use Rattle.laws.proofs.EvenLaws.{back}
 use Rattle.laws.proofs.PermLaws.{Perm, perm-place}
 use Rattle.laws.proofs.PlaceLaws.{next-below, next-inner, next-last, on-next, on-zero, place-below, prev-below, prev-first, prev-inner, tally-at}
 use Rattle.laws.proofs.ReadLaws.{Reads, Turned, reads-tally, reads-turn, turn-turned, turned-length, turned-turn}
 use Rattle.laws.proofs.SpotLaws.{Spot, at-on, place-on, reads-join, reads-seam, spot}
 use Rattle.laws.proofs.StretchLaws.{lenOf-is, reversing-is}
-use Rattle.laws.proofs.TimeLaws.{end, end-at, end-join}
+use Rattle.laws.proofs.TimeLaws.{back, end, end-at, end-join}
 use Rattle.laws.proofs.TurnLaws.{On, on-below}
 
 -- a stretch reversed where the reading begins

@@ -12,6 +12,7 @@ use Rattle.rules.specs.Lists.{every}
 use Rattle.rules.specs.Words.{Round}
 use Rattle.laws.proofs.ChoiceLaws.{and-true, both-true}
 use Rattle.laws.proofs.RewriteLaws.{reverseAt-length, reverseAt-undone, rotateAt-length, rotateAt-undone, swapAt-length, swapAt-undone}
+use Rattle.laws.proofs.TimeLaws.{back}
 
 pub carryOut-length : (e : Entry) (r : Round) → length (carryOut e r) ≡ length r
 unfolding carryOut

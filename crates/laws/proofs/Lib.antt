@@ -21,3 +21,4 @@ pub mod ReadLaws
 pub mod SpotLaws
 pub mod FlipLaws
 pub mod OrMoveLaws
+pub mod LandLaws

@@ -11,16 +11,15 @@ use Rattle.rules.specs.Journal.{Track, carryOut, doing}
 use Rattle.rules.specs.Lists.{at}
 use Rattle.rules.specs.Moves.{exchange, orMove}
 use Rattle.rules.specs.Rewrite.{from, rotateAt}
-use Rattle.rules.specs.Ring.{place}
-use Rattle.rules.specs.Words.{Round, Stop}
+use Rattle.rules.specs.Ring.{place, recount}
+use Rattle.rules.specs.Words.{Legs, Round, Stop}
 use Rattle.laws.proofs.ChoiceLaws.{either-way}
-use Rattle.laws.proofs.EvenLaws.{back}
 use Rattle.laws.proofs.PermLaws.{Perm}
 use Rattle.laws.proofs.PlaceLaws.{on-zero}
-use Rattle.laws.proofs.ReadLaws.{Reads, Turned, reads-turn, turn-turned, turned-length, turned-turn}
+use Rattle.laws.proofs.ReadLaws.{Reads, Turned, driven, reads-driven, reads-turn, turn-turned, turned-length, turned-turn}
 use Rattle.laws.proofs.RewriteLaws.{exchange-parts}
 use Rattle.laws.proofs.SpotLaws.{Spot, place-on, spot}
-use Rattle.laws.proofs.TimeLaws.{end}
+use Rattle.laws.proofs.TimeLaws.{back, end, exchange3-time}
 use Rattle.laws.proofs.TurnLaws.{On, high, low}
 
 -- two segments exchanged where the reading begins
@@ -161,3 +160,15 @@ module _ (t : Track) (u : Perm t.round) where
       let e′ : (end t6 B ∷ y.tail) ++ ((end t4 C ∷ z.tail) ++ (end t2 A ∷ x.tail)) ≡ reverse ((X ++ Z) ++ Y) =
       sym (reverse-append (X ++ Z) Y ∙ ap (λ k. reverse Y ++ k) (reverse-append X Z) ∙ ap₂ (λ k m. k ++ m) y.is (ap₂ (λ k m. k ++ m) z.is x.is)) in
       reads-turn false (exchange lo mid hi t .round) (X ++ Z) Y (subst (Turned (exchange lo mid hi t .round)) e′ g)
+
+  -- three legs go and three come, each as it is driven; no leg is asked to take as long as its return
+  pub orMove-time : (d : Legs) (o : Bool) (t2 : Stop) (A : List Stop) (t6 : Stop) (B : List Stop) (t4 : Stop) (C : List Stop) → Reads o t.round ((t2 ∷ A) ++ ((t6 ∷ B) ++ (t4 ∷ C)))
+      → recount d (orMove o (end t4 C) t2 (end t2 A) t6 (end t6 B) t4 t .round) + (driven o d (end t4 C) t2 + driven o d (end t2 A) t6 + driven o d (end t6 B) t4)
+      ≡ recount d t.round + (driven o d (end t4 C) t6 + driven o d (end t6 B) t2 + driven o d (end t2 A) t4)
+  orMove-time d o t2 A t6 B t4 C h =
+      omega (
+        arith,
+        exchange3-time (driven o d) t2 A t6 B t4 C,
+        reads-driven d t.round o ((t2 ∷ A) ++ ((t6 ∷ B) ++ (t4 ∷ C))) h,
+        reads-driven d (orMove o (end t4 C) t2 (end t2 A) t6 (end t6 B) t4 t .round) o ((t6 ∷ B) ++ ((t2 ∷ A) ++ (t4 ∷ C))) (orMove-reads o t2 A t6 B t4 C h),
+      )

@@ -8,11 +8,11 @@ use lib.ListN.{drop, length, length-append, length-reverse, take, take-append-dr
 use Rattle.rules.specs.Lists.{at, tally}
 use Rattle.rules.specs.Ring.{recount, turn}
 use Rattle.rules.specs.Words.{Legs, Round, Stop}
-use Rattle.laws.proofs.EvenLaws.{Even, recount-reverse}
+use Rattle.laws.proofs.EvenLaws.{Even, recount-even}
 use Rattle.laws.proofs.EveryLaws.{Below}
 use Rattle.laws.proofs.PermLaws.{Perm, tally-below}
 use Rattle.laws.proofs.TallyLaws.{tally-join, tally-reverse}
-use Rattle.laws.proofs.TimeLaws.{halves}
+use Rattle.laws.proofs.TimeLaws.{halves, recount-back, returned}
 
 -- ---- the same ring, begun elsewhere
 pub record Turned (r x : List Stop) : Type 0 where
@@ -90,8 +90,19 @@ reads-length false r x t = sym (length-reverse x) ∙ turned-length r (reverse x
 pub reads-below : (r : Round) → Perm r → (o : Bool) (x : List Stop) → Reads o r x → Below (length r) x
 reads-below r pm o x l = tally-below (length r) x (λ v h. pm.only v (omega (arith, reads-tally o r x l v)))
 
--- where legs take as long as their return, a reading takes as long as the round
+-- the legs as a reading drives them
+unfoldable pub driven : Bool → Legs → Legs
+driven true d = d
+driven false d = returned d
+
+-- a reading takes, by the legs as it drives them, as long as the round
+pub reads-driven : (d : Legs) (r : Round) (o : Bool) (x : List Stop) → Reads o r x → recount (driven o d) x ≡ recount d r
+unfolding Reads driven
+reads-driven d r true x t = turned-time d r x t
+reads-driven d r false x t = sym (recount-back d x) ∙ turned-time d r (reverse x) t
+
+-- and, where legs take as long as their return, by the legs themselves
 pub reads-time : (d : Legs) (r : Round) → Perm r → Even d (length r) → (o : Bool) (x : List Stop) → Reads o r x → recount d x ≡ recount d r
-unfolding Reads
-reads-time d r pm even true x t = turned-time d r x t
-reads-time d r pm even false x t = sym (recount-reverse d (length r) even x (reads-below r pm false x t)) ∙ turned-time d r (reverse x) t
+unfolding driven
+reads-time d r pm even true x t = reads-driven d r true x t
+reads-time d r pm even false x t = sym (recount-even d (length r) even x (reads-below r pm false x t)) ∙ reads-driven d r false x t

@@ -9,11 +9,10 @@ use lib.Seq.{drop-at, take-at}
 use Rattle.rules.specs.Lists.{at}
 use Rattle.rules.specs.Ring.{ahead, behind, next, place, pred, prev, succ, turn}
 use Rattle.rules.specs.Words.{Place, Round, Stop}
-use Rattle.laws.proofs.EvenLaws.{back}
 use Rattle.laws.proofs.PermLaws.{Perm, perm-place}
 use Rattle.laws.proofs.PlaceLaws.{on-before, on-round, on-zero}
 use Rattle.laws.proofs.ReadLaws.{Reads, Turned, reads-turn, turned-length}
-use Rattle.laws.proofs.TimeLaws.{end, end-at, end-join}
+use Rattle.laws.proofs.TimeLaws.{back, end, end-at, end-join}
 use Rattle.laws.proofs.TurnLaws.{On, low, on-below, on-mod, turn-on}
 
 -- a place from which the ring reads x

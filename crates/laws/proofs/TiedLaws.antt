@@ -8,10 +8,9 @@ use native.Mathlib.Omega.{arith}
 use lib.ListN.{length}
 use lib.Seq.{ext-getD}
 use Rattle.rules.specs.Contracts.{Tied}
-use Rattle.rules.specs.Lists.{at, has, if_then_else_, once, tally}
+use Rattle.rules.specs.Lists.{at, if_then_else_, tally}
 use Rattle.rules.specs.Ring.{between, isRound, next, onWay, place, placesOf, pred, prev, succ}
 use Rattle.rules.specs.Words.{Place, Round, Stop}
-use Rattle.laws.proofs.EvenLaws.{back}
 use Rattle.laws.proofs.PermLaws.{Perm, perm-at, perm-place, perm-round, round-length, round-perm}
 use Rattle.laws.proofs.PlaceLaws.{at-place, next-below, place-below, prev-below, tally-at}
 use Rattle.laws.proofs.RisingLaws.{table-at, table-length}

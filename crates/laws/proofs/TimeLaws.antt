@@ -1,10 +1,10 @@
 -- The time of a round in parts: where it begins decides nothing, and what an exchange of its parts changes. Nothing here asks a leg to take
 -- as long as its return.
-use Prim.Native.Nat.{_+_, _-_, _<_}
-use mathlib.Core.Path.{_∙_, _≡_, ap, refl}
-use mathlib.Core.List.{List, [], _++_, _∷_, append-nil}
+use Prim.Native.Nat.{_+_, _-_, _<_, suc}
+use mathlib.Core.Path.{_∙_, _≡_, ap, refl, sym}
+use mathlib.Core.List.{List, [], _++_, _∷_, append-nil, reverse, reverse-cons}
 use native.Mathlib.Omega.{arith}
-use lib.ListN.{drop, length, take, take-append-drop}
+use lib.ListN.{drop, length, length-reverse, take, take-append-drop}
 use Rattle.rules.specs.Lists.{at}
 use Rattle.rules.specs.Rewrite.{from}
 use Rattle.rules.specs.Ring.{along, lap, recount, turn}
@@ -81,3 +81,40 @@ module _ (d : Legs) where
       → recount d ((z ∷ Z) ++ ((y ∷ Y) ++ ((x ∷ X) ++ (w ∷ W)))) + (d (end w W) x + d (end x X) y + d (end y Y) z + d (end z Z) w)
       ≡ recount d ((x ∷ X) ++ ((y ∷ Y) ++ ((z ∷ Z) ++ (w ∷ W)))) + (d (end w W) z + d (end z Z) y + d (end y Y) x + d (end x X) w)
   exchange4-time x X y Y z Z w W = omega (arith, ring4 x X y Y z Z w W, ring4 z Z y Y x X w W)
+
+-- ---- backwards
+-- a list that begins with a, read backwards
+pub record Back (a : Stop) (A : List Stop) : Type 0 where
+  pub tail : List Stop
+  pub is : reverse (a ∷ A) ≡ end a A ∷ tail
+  pub ends : end (end a A) tail ≡ a
+
+pub back : (a : Stop) (A : List Stop) → Back a A
+unfolding end
+back a [] = record { tail = []; is = refl; ends = refl }
+back a (x ∷ A) =
+    let h = back x A in
+    record { tail = h.tail ++ (a ∷ []); is = reverse-cons a (x ∷ A) ∙ ap (λ l. l ++ (a ∷ [])) h.is; ends = end-join (end x A) h.tail a [] }
+
+-- each leg as its return
+unfoldable pub returned : Legs → Legs
+returned d a b = d b a
+
+module _ (d : Legs) where
+  -- a path backwards takes the returns of its legs
+  pub along-back : (a : Stop) (A : List Stop) → along d (end a A) (back a A .tail) ≡ along (returned d) a A
+  unfolding along end back returned
+  along-back a [] = refl
+  along-back a (x ∷ A) = let g = back x A in omega (arith, along-join d (end x A) g.tail a [], along-back x A, ap (λ v. d v a) g.ends)
+
+  -- and so does a round
+  pub recount-back : (r : Round) → recount d (reverse r) ≡ recount (returned d) r
+  unfolding returned recount lap
+  recount-back [] = refl
+  recount-back (a ∷ []) = refl
+  recount-back (a ∷ x ∷ A) =
+      let g = back a (x ∷ A) in
+      let z = end a (x ∷ A) in
+      let l : length (z ∷ g.tail) ≡ suc (suc (length A)) = sym (ap length g.is) ∙ length-reverse (a ∷ x ∷ A) in
+      let e : recount d (reverse (a ∷ x ∷ A)) ≡ recount d (z ∷ g.tail) = ap (recount d) g.is in
+      omega (arith, e, ring1 d z g.tail (omega arith), ring1 (returned d) a (x ∷ A) (omega arith), along-back a (x ∷ A), ap (λ v. d v z) g.ends)
