@@ -22,3 +22,6 @@ pub mod SpotLaws
 pub mod FlipLaws
 pub mod OrMoveLaws
 pub mod LandLaws
+pub mod WayLaws
+pub mod TrialLaws
+pub mod TrialStopLaws

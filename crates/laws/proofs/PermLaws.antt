@@ -2,7 +2,7 @@
 use Prim.Native.Nat.{_+_, _<_, _≤_, suc, zero, ℕ}
 use mathlib.Core.Path.{_≡_, refl, subst}
 use mathlib.Core.Logic.{_≢_}
-use mathlib.Core.Bool.{true}
+use mathlib.Core.Bool.{Bool, true}
 use mathlib.Core.List.{List, [], _∷_}
 use native.Mathlib.Decide.{decLt, ℕ-discrete}
 use native.Mathlib.Nat.{not-suc-le-zero}
@@ -11,11 +11,11 @@ use lib.Dec.{eqb, ltb}
 use lib.ListN.{length}
 use borrow.Author.Tests.{eq-eqb, eqb-true, lt-ltb, ltb-false, ltb-true}
 use Rattle.rules.specs.Lists.{at, every, has, if_then_else_, once, one, rising, tally}
-use Rattle.rules.specs.Ring.{isRound, place}
+use Rattle.rules.specs.Ring.{ahead, behind, isRound, next, place, pred, prev, succ}
 use Rattle.rules.specs.Words.{Place, Round, Stop}
-use Rattle.laws.proofs.ChoiceLaws.{and-true, either-if}
+use Rattle.laws.proofs.ChoiceLaws.{and-true, either-if, either-way}
 use Rattle.laws.proofs.EveryLaws.{Below, more, none}
-use Rattle.laws.proofs.PlaceLaws.{place-at, tally-at}
+use Rattle.laws.proofs.PlaceLaws.{next-below, place-at, place-below, prev-below, tally-at}
 use Rattle.laws.proofs.RisingLaws.{every-rising, rising-every}
 use Rattle.laws.proofs.TallyLaws.{one-other, one-same}
 
@@ -52,6 +52,24 @@ perm-place r p i h = place-at r i h (p.once (at r i))
 
 pub perm-at : (r : Round) → Perm r → (i : Place) → i < length r → at r i < length r
 perm-at r p i h = p.only (at r i) (tally-at r i h)
+
+-- the stops beside a stop
+pub succ-below : (r : Round) → Perm r → (v : Stop) → v < length r → succ r v < length r
+unfolding succ
+succ-below r p v h = perm-at r p (next (length r) (place r v)) (next-below (length r) (place r v) (place-below r v (p.has v h)))
+
+pub pred-below : (r : Round) → Perm r → (v : Stop) → v < length r → pred r v < length r
+unfolding pred
+pred-below r p v h = perm-at r p (prev (length r) (place r v)) (prev-below (length r) (place r v) (place-below r v (p.has v h)))
+
+-- in a direction
+pub ahead-below : (r : Round) → Perm r → (o : Bool) (v : Stop) → v < length r → ahead o r v < length r
+unfolding ahead
+ahead-below r p o v h = either-way (λ w. w < length r) o (succ-below r p v h) (pred-below r p v h)
+
+pub behind-below : (r : Round) → Perm r → (o : Bool) (v : Stop) → v < length r → behind o r v < length r
+unfolding behind
+behind-below r p o v h = either-way (λ w. w < length r) o (pred-below r p v h) (succ-below r p v h)
 
 -- ---- n stops, each below n once: none beyond
 unfoldable total : ℕ → (ℕ → ℕ) → ℕ

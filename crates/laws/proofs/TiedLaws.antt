@@ -12,7 +12,7 @@ use Rattle.rules.specs.Lists.{at, if_then_else_, tally}
 use Rattle.rules.specs.Ring.{between, isRound, next, onWay, place, placesOf, pred, prev, succ}
 use Rattle.rules.specs.Words.{Place, Round, Stop}
 use Rattle.laws.proofs.PermLaws.{Perm, perm-at, perm-place, perm-round, round-length, round-perm}
-use Rattle.laws.proofs.PlaceLaws.{at-place, next-below, place-below, prev-below, tally-at}
+use Rattle.laws.proofs.PlaceLaws.{at-place, place-below, tally-at}
 use Rattle.laws.proofs.RisingLaws.{table-at, table-length}
 use Rattle.laws.proofs.TallyLaws.{one-other, one-same}
 
@@ -94,9 +94,3 @@ module _ {r : Round} {places : List Place} (t : Tied r places) where
   unfolding between
   between-tied true a b c ha hb hc = rw (place-tied a ha, place-tied b hb, place-tied c hc)
   between-tied false a b c ha hb hc = rw (place-tied a ha, place-tied b hb, place-tied c hc)
-
-  pub succ-below : (v : Stop) → v < length r → succ r v < length r
-  succ-below v h = rw (succ-tied v h) (t .stop (next (length r) (at places v)) (next-below (length r) (at places v) (t .place v h)))
-
-  pub pred-below : (v : Stop) → v < length r → pred r v < length r
-  pred-below v h = rw (pred-tied v h) (t .stop (prev (length r) (at places v)) (prev-below (length r) (at places v) (t .place v h)))
