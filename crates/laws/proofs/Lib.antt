@@ -25,3 +25,7 @@ pub mod LandLaws
 pub mod WayLaws
 pub mod TrialLaws
 pub mod TrialStopLaws
+pub mod GainLaws
+pub mod StepLaws
+pub mod LkLaws
+pub mod Lk3Laws
