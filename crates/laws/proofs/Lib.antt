@@ -29,3 +29,4 @@ pub mod GainLaws
 pub mod StepLaws
 pub mod LkLaws
 pub mod Lk3Laws
+pub mod DescendLaws
