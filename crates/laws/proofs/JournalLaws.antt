@@ -50,16 +50,16 @@ pub record Past (t t′ : Track) : Type 0 where
   pub grown : t′ .journal ≡ newer ++ t .journal
   pub back : undoAll newer (t′ .round) ≡ t .round
 
-undo-join : (xs ys : List Entry) (r : Round) → undoAll (xs ++ ys) r ≡ undoAll ys (undoAll xs r)
+pub undo-join : (xs ys : List Entry) (r : Round) → undoAll (xs ++ ys) r ≡ undoAll ys (undoAll xs r)
 unfolding undoAll
 undo-join [] ys r = refl
 undo-join (e ∷ es) ys r = undo-join es ys (takeBack e r)
 
-pub past-refl : (t : Track) → Past t t
+unfoldable pub past-refl : (t : Track) → Past t t
 unfolding undoAll
 past-refl t = record { newer = []; grown = refl; back = refl }
 
-pub past-past : {a b c : Track} → Past a b → Past b c → Past a c
+unfoldable pub past-past : {a b c : Track} → Past a b → Past b c → Past a c
 past-past {a} {b} {c} p q = record {
   newer = q .newer ++ p .newer;
   grown = q .grown ∙ ap (λ (l : List Entry). q .newer ++ l) (p .grown) ∙ sym (append-assoc (q .newer) (p .newer) (a .journal));
@@ -67,7 +67,7 @@ past-past {a} {b} {c} p q = record {
 }
 
 -- an entry in range, carried out and journalled
-pub past-doing : (e : Entry) (t : Track) → inRange (length (t .round)) e ≡ true → Past t (doing e t)
+unfoldable pub past-doing : (e : Entry) (t : Track) → inRange (length (t .round)) e ≡ true → Past t (doing e t)
 unfolding doing undoAll
 past-doing e t h = record { newer = e ∷ []; grown = refl; back = takeBack-carryOut e (t .round) h }
 

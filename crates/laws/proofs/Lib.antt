@@ -25,6 +25,7 @@ pub mod LandLaws
 pub mod WayLaws
 pub mod TrialLaws
 pub mod TrialStopLaws
+pub mod SinceLaws
 pub mod GainLaws
 pub mod StepLaws
 pub mod LkLaws

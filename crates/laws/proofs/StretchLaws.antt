@@ -4,8 +4,8 @@ use mathlib.Core.Path.{_≡_, refl, sym}
 use native.Mathlib.Omega.{arith}
 use lib.Dec.{leb, ltb}
 use lib.ListN.{length}
-use borrow.Author.Tests.{le-leb, leb-false, leb-true, lt-ltb, ltb-true}
-use Rattle.rules.specs.Journal.{Track, carryOut, doing, inRange, reversal, reversing}
+use borrow.Author.Tests.{leb-false, leb-true, ltb-true}
+use Rattle.rules.specs.Journal.{Track, carryOut, doing, reversing}
 use Rattle.rules.specs.Lists.{at}
 use Rattle.rules.specs.Rewrite.{Stretch, lenOf, reverseAt, stretch}
 use Rattle.rules.specs.Ring.{next, prev, recount}
@@ -13,7 +13,6 @@ use Rattle.rules.specs.Words.{Legs, Place, Round}
 use Rattle.laws.proofs.ChoiceLaws.{either-if, either-way}
 use Rattle.laws.proofs.EvenLaws.{Even, Reversed, complement-time, reverseAt-time}
 use Rattle.laws.proofs.EveryLaws.{Below}
-use Rattle.laws.proofs.JournalLaws.{Past, past-doing, past-refl}
 use Rattle.laws.proofs.PlaceLaws.{next-below, on-before, on-next}
 use Rattle.laws.proofs.RewriteLaws.{reverseAt-short}
 use Rattle.laws.proofs.TurnLaws.{On, high, low, on-mod}
@@ -54,14 +53,14 @@ lenOf-is n s e len hs he h hl o = go (lenOf n s e) (lenOf-some n s e hs he) (len
     go m k l (high a p) (high b q) = omega arith
 
 -- what is really turned stands on the ring
-pub record Fits (n : ℕ) (w : Stretch) : Type 0 where
+pub record OnRing (n : ℕ) (w : Stretch) : Type 0 where
   pub start-below : w .start < n
   pub len-few : w .len ≤ n
 
-pub stretch-fits : (n : ℕ) (s e : Place) → s < n → e < n → Fits n (stretch n s e)
+pub stretch-fits : (n : ℕ) (s e : Place) → s < n → e < n → OnRing n (stretch n s e)
 unfolding stretch
 stretch-fits n s e hs he =
-    either-way (Fits n) (ltb n (2 * lenOf n s e))
+    either-way (OnRing n) (ltb n (2 * lenOf n s e))
     (record { start-below = next-below n e he; len-few = omega arith })
     (record { start-below = hs; len-few = lenOf-few n s e hs he })
 
@@ -96,12 +95,3 @@ pub reversing-time : (d : Legs) (t : Track) → Even d (length t.round) → Belo
 reversing-time d t even below s e hs he h =
     let f = stretch-fits (length t.round) s e hs he in
     rw (reversing-is s e t (omega (arith, f.start-below))) (stretch-time d t.round even below s e hs he h)
-
--- it journals what leads back
-pub past-reversing : (s e : Place) (t : Track) → s < length t.round → e < length t.round → Past t (reversing s e t)
-unfolding reversing inRange
-past-reversing s e t hs he =
-    let w = stretch (length t.round) s e in
-    let f = stretch-fits (length t.round) s e hs he in
-    either-way (Past t) (ltb w.len 2) (past-refl t)
-    (past-doing (reversal w.start w.len) t (rw (lt-ltb w.start (length t.round) (f .start-below), le-leb w.len (length t.round) (f .len-few))))
