@@ -2,7 +2,7 @@
 use Prim.Native.Nat.{_<_, suc, zero, ℕ}
 use mathlib.Core.Path.{_≡_, refl}
 use mathlib.Core.Bool.{Bool, true}
-use mathlib.Core.List.{List, [], _++_, _∷_}
+use mathlib.Core.List.{List, [], _++_, _∷_, map}
 use native.Mathlib.Omega.{arith}
 use lib.ListN.{drop, length, take}
 use Rattle.rules.specs.Lists.{at, each, every, keep, keepWhile}
@@ -47,6 +47,10 @@ pub all-each : {A B : Type 0} {P : A → Type 0} {Q : B → Type 0} (f : A → L
 unfolding each
 all-each f [] h none = none
 all-each f (x ∷ xs) h (more p a) = all-join (f x) (each f xs) (h x p) (all-each f xs h a)
+
+pub all-image : {A B : Type 0} {P : A → Type 0} {Q : B → Type 0} (f : A → B) (xs : List A) → ((x : A) → P x → Q (f x)) → All P xs → All Q (map f xs)
+all-image f [] h none = none
+all-image f (x ∷ xs) h (more p a) = more (h x p) (all-image f xs h a)
 
 -- a scan that skips what fails, and one that ends there: what is left passed the test
 pub all-keep : {A : Type 0} {P : A → Type 0} (p : A → Bool) (xs : List A) → All P xs → All (λ x. P x × (p x ≡ true)) (keep p xs)

@@ -31,3 +31,4 @@ pub mod StepLaws
 pub mod LkLaws
 pub mod Lk3Laws
 pub mod DescendLaws
+pub mod StepSinceLaws

@@ -3,7 +3,7 @@ use Prim.Native.Nat.{_+_, _-_, _<_, _≤_, suc, zero, ℕ}
 use mathlib.Core.Path.{_∙_, _≡_, subst, sym}
 use mathlib.Core.Logic.{_≢_}
 use mathlib.Core.Bool.{Bool, false, true}
-use mathlib.Core.List.{List, [], _++_, _∷_, map}
+use mathlib.Core.List.{List, [], _++_, _∷_}
 use native.Mathlib.Omega.{arith}
 use lib.Dec.{ltb}
 use lib.ListN.{length}
@@ -18,7 +18,7 @@ use Rattle.rules.specs.Ring.{ahead, behind, recount}
 use Rattle.rules.specs.Step.{Step, begin}
 use Rattle.rules.specs.Words.{Legs, Stop, Time}
 use Rattle.laws.proofs.ChoiceLaws.{by-gain, either-if}
-use Rattle.laws.proofs.EveryLaws.{All, Below, all-keep, all-map, all-while, more, none}
+use Rattle.laws.proofs.EveryLaws.{All, Below, all-image, all-keep, all-map, all-while, more, none}
 use Rattle.laws.proofs.GainLaws.{Falls, Fit, falls-nothing, falls-time, orElse-falls}
 use Rattle.laws.proofs.LandLaws.{Lands, flip-lands}
 use Rattle.laws.proofs.PermLaws.{Perm, ahead-below, behind-below}
@@ -33,10 +33,6 @@ use Rattle.laws.proofs.WayLaws.{CutAt, Start, cut-at}
 record Cont (d : Legs) (t : Track) (t1 t2 : Stop) (g : Time) (x : Trial) : Type 0 where
   lands : Lands d t.round (flip t1 t2 x.t3 t .round) t1 x.t4 (x.partial + d t1 t2) (g + d x.t4 t1)
   stops : Stops (length t.round) x
-
-all-image : {A B : Type 0} {P : A → Type 0} {Q : B → Type 0} (f : A → B) (xs : List A) → ((x : A) → P x → Q (f x)) → All P xs → All Q (map f xs)
-all-image f [] h none = none
-all-image f (x ∷ xs) h (more p a) = more (h x p) (all-image f xs h a)
 
 module _ (p : Plan) (s : Step) (pm : Perm s.track.round) (fit : Fit p (length s.track.round)) (long : 3 ≤ length s.track.round) (o : Bool) (t1 t2 : Stop) (g : Time) (st : Start o s.track.round t1 t2) where
   cont : (t3 : Stop) → t3 < length s.track.round → t3 ≢ t2 → legOf p t2 t3 < g → Cont (legOf p) s.track t1 t2 g (contOf p o s t2 g t3)
