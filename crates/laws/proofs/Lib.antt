@@ -32,3 +32,6 @@ pub mod LkLaws
 pub mod Lk3Laws
 pub mod DescendLaws
 pub mod StepSinceLaws
+pub mod KickTimeLaws
+pub mod KickLaws
+pub mod SpanLaws
