@@ -35,3 +35,4 @@ pub mod StepSinceLaws
 pub mod KickTimeLaws
 pub mod KickLaws
 pub mod SpanLaws
+pub mod KickedLaws

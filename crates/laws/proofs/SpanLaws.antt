@@ -22,15 +22,19 @@ InSpans [] (v ∷ vs) = ⊥
 InSpans (s ∷ ss) [] = ⊥
 InSpans (s ∷ ss) (v ∷ vs) = ((s.low ≤ v) × (v ≤ s.high)) × InSpans ss vs
 
-pub head-in : (s : Span) (ss : List Span) (vs : List ℕ) → InSpans (s ∷ ss) vs → (s.low ≤ at vs 0) × (at vs 0 ≤ s.high)
+head-in : (s : Span) (ss : List Span) (vs : List ℕ) → InSpans (s ∷ ss) vs → (s.low ≤ at vs 0) × (at vs 0 ≤ s.high)
 unfolding InSpans
 head-in s ss [] h = absurd h
 head-in s ss (v ∷ vs) h = h .0
 
-pub tail-in : (s : Span) (ss : List Span) (vs : List ℕ) → InSpans (s ∷ ss) vs → InSpans ss (drop 1 vs)
+-- the draws behind those of some spans
+pub drop-in : (i : ℕ) (before ss : List Span) (vs : List ℕ) → length before ≡ i → InSpans (before ++ ss) vs → InSpans ss (drop i vs)
 unfolding InSpans
-tail-in s ss [] h = absurd h
-tail-in s ss (v ∷ vs) h = h .1
+drop-in zero [] ss vs e h = h
+drop-in zero (b ∷ bs) ss vs e h = absurd (omega arith)
+drop-in (suc i) [] ss vs e h = absurd (omega arith)
+drop-in (suc i) (b ∷ bs) ss [] e h = absurd h
+drop-in (suc i) (b ∷ bs) ss (v ∷ vs) e h = drop-in i bs ss vs (omega arith) (h .1)
 
 -- the draw of the span behind others
 pub nth-in : (i : ℕ) (before : List Span) (s : Span) (ss : List Span) (vs : List ℕ) → length before ≡ i → InSpans (before ++ (s ∷ ss)) vs → (s.low ≤ at vs i) × (at vs i ≤ s.high)
