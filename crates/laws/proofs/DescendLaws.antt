@@ -16,12 +16,12 @@ use Rattle.rules.specs.Ring.{recount}
 use Rattle.rules.specs.State.{State}
 use Rattle.rules.specs.Words.{Legs, Stop, Time}
 use Rattle.laws.proofs.ChoiceLaws.{either-way}
-use Rattle.laws.proofs.EveryLaws.{Below, more, none}
+use Rattle.laws.proofs.EvenLaws.{below-head}
 use Rattle.laws.proofs.GainLaws.{Falls, Fit, both-falls, falls-time, orElse-falls}
 use Rattle.laws.proofs.Lk3Laws.{lk3From-falls}
 use Rattle.laws.proofs.LkLaws.{lkFrom-falls}
-use Rattle.laws.proofs.PermLaws.{Perm, perm-kept}
-use Rattle.laws.proofs.QueueLaws.{pushAll-below}
+use Rattle.laws.proofs.PermLaws.{Perm}
+use Rattle.laws.proofs.RunLaws.{Stands, descend-stands, stands-journalled, stands-taken}
 
 -- ---- a step of any kind
 module _ (p : Plan) (t : Track) (pm : Perm t.round) (fit : Fit p (length t.round)) (v : Stop) (h : v < length t.round) where
@@ -40,47 +40,33 @@ unfolding journalled cleared
 journalled-round (kept room) t = refl
 journalled-round committed t = refl
 
--- ---- a state whose time is the recount of its round of n stops, and whose queue holds stops
+-- ---- a state whose time is the recount of its round
 pub record Sound (d : Legs) (n : ℕ) (s : State) : Type 0 where
-  pub perm : Perm s.track.round
-  pub size : length s.track.round ≡ n
-  pub queued : Below n s.queue
+  pub stands : Stands n s.track s.queue
   pub carried : s.time ≡ recount d s.track.round
 
 module _ (p : Plan) (kind : ℕ) (m : Manner) (n : ℕ) (fit : Fit p n) where
-  record Now (t : Track) (time : Time) : Type 0 where
-    perm : Perm t.round
-    size : length t.round ≡ n
-    carried : time ≡ recount (legOf p) t.round
+  journalled-time : (t : Track) → recount (legOf p) (journalled m t .round) ≡ recount (legOf p) t.round
+  journalled-time t = ap (recount (legOf p)) (journalled-round m t)
 
-  journalled-now : (t : Track) (time : Time) → Now t time → Now (journalled m t) time
-  journalled-now t time h =
-      let e : journalled m t .round ≡ t.round = journalled-round m t in
-      record { perm = subst Perm (sym e) h.perm; size = ap length e ∙ h.size; carried = h.carried ∙ ap (recount (legOf p)) (sym e) }
-
-  left-sound : (ended left : ℕ) (t : Track) (time : Time) → Now t time → Sound (legOf p) n (leave m ended left t time .state)
-  unfolding leave
-  left-sound ended left t time h = let g = journalled-now t time h in record { perm = g.perm; size = g.size; queued = none; carried = g.carried }
-
-  descending-sound : (left : ℕ) (vs : List Stop) (t : Track) (time : Time) → Now t time → Below n vs → Sound (legOf p) n (descending p kind m left vs t time .state)
-  unfolding descending
-  descending-sound zero [] t time h b = left-sound 0 zero t time h
-  descending-sound (suc left) [] t time h b = left-sound 0 (suc left) t time h
-  descending-sound zero (v ∷ vs) t time h b = left-sound 1 zero t time h
-  descending-sound (suc left) (v ∷ vs) t time h (more q b) =
+  descending-carried : (left : ℕ) (vs : List Stop) (t : Track) (time : Time) → Stands n t vs → time ≡ recount (legOf p) t.round
+      → descending p kind m left vs t time .state .time ≡ recount (legOf p) (descending p kind m left vs t time .state .track .round)
+  unfolding descending leave
+  descending-carried zero [] t time h e = e ∙ sym (journalled-time t)
+  descending-carried (suc left) [] t time h e = e ∙ sym (journalled-time t)
+  descending-carried zero (v ∷ vs) t time h e = e ∙ sym (journalled-time t)
+  descending-carried (suc left) (v ∷ vs) t time h e =
       let u = journalled m t in
-      let g = journalled-now t time h in
+      let g = stands-journalled m n t (v ∷ vs) h in
       let f = stepFrom p kind v u in
-      let k = step-falls p u g.perm (subst (Fit p) (sym g.size) fit) v (omega (arith, g.size)) kind in
-      let now : Now f.track (time - f.gain) = record {
-        perm = perm-kept u.round f.track.round g.perm k.same k.size;
-        size = k.size ∙ g.size;
-        carried = omega (arith, falls-time (legOf p) u f k, g.carried);
-      } in
-      either-way (λ (x : Ran). Sound (legOf p) n x.state) (short m t) (left-sound 2 (suc left) t time h)
-      (descending-sound left (pushAll vs f.touched) f.track (time - f.gain) now (pushAll-below n vs f.touched b (subst (λ k. Below k f.touched) g.size k.stops)))
+      let k = step-time p u g.perm (subst (Fit p) (sym g.size) fit) v (omega (arith, below-head n v vs g.queued, g.size)) kind in
+      either-way (λ (x : Ran). x.state.time ≡ recount (legOf p) x.state.track.round) (short m t) (e ∙ sym (journalled-time t))
+      (descending-carried left (pushAll vs f.touched) f.track (time - f.gain) (stands-taken p kind n fit.lists v vs u g) (omega (arith, k, e, journalled-time t)))
+
+  descend-carried : (budget : ℕ) (s : State) → Sound (legOf p) n s → descend p kind m budget s .state .time ≡ recount (legOf p) (descend p kind m budget s .state .track .round)
+  unfolding descend
+  descend-carried budget s h = descending-carried budget s.queue s.track s.time h.stands h.carried
 
   -- a whole descent
   pub descend-sound : (budget : ℕ) (s : State) → Sound (legOf p) n s → Sound (legOf p) n (descend p kind m budget s .state)
-  unfolding descend
-  descend-sound budget s h = descending-sound budget s.queue s.track s.time (record { perm = h.perm; size = h.size; carried = h.carried }) h.queued
+  descend-sound budget s h = record { stands = descend-stands p kind n fit.lists m budget s h.stands; carried = descend-carried budget s h }

@@ -1,7 +1,7 @@
 -- 01, 11: a whole kick, whatever it draws: the recount after it is the recount before with the legs that came, without those that went. No leg
 -- is asked to take as long as its return.
 use Prim.Native.Nat.{_*_, _-_, _/_, _<_, _≤_, suc, zero, ℕ}
-use mathlib.Core.Path.{_∙_, _≡_, refl, subst}
+use mathlib.Core.Path.{_≡_, refl, subst}
 use mathlib.Core.Bool.{Bool, false, true}
 use mathlib.Core.List.{List, [], _∷_}
 use native.Mathlib.Omega.{arith}
@@ -14,13 +14,15 @@ use Rattle.rules.specs.Kicks.{Kicked, andThen, bridgeKick, globalKick, globalSp
 use Rattle.rules.specs.Lists.{at, if_then_else_}
 use Rattle.rules.specs.Numbers.{long}
 use Rattle.rules.specs.Queue.{pushAll}
+use Rattle.rules.specs.Ring.{recount}
 use Rattle.rules.specs.State.{State}
 use Rattle.rules.specs.Words.{Legs, Stop}
 use Rattle.laws.proofs.DescendLaws.{Sound}
 use Rattle.laws.proofs.EveryLaws.{Below}
 use Rattle.laws.proofs.KickLaws.{Kicks, bridge-kicks, segment-kicks, shuffle-kicks, then-kicks, window-kicks}
 use Rattle.laws.proofs.PermLaws.{Perm}
-use Rattle.laws.proofs.QueueLaws.{pushAll-below, pushAll-some}
+use Rattle.laws.proofs.QueueLaws.{pushAll-some}
+use Rattle.laws.proofs.RunLaws.{Stands, stands-since}
 use Rattle.laws.proofs.SinceLaws.{since-length, since-more, since-perm}
 use Rattle.laws.proofs.SpanLaws.{InSpans, drop-in, kick-draws, nth-in, shuffle-in}
 
@@ -109,20 +111,18 @@ module _ (d : Legs) (t : Track) (pm : Perm t.round) (pos : 1 ≤ length t.round)
   unfolding kick
   kick-kicks kind x = kicked-kicks kind (draws (spans (length t.round) kind) x .values) (kick-draws (length t.round) kind x)
 
--- the carried time stays the recount, the queue holds stops
-pub kickedState-sound : (d : Legs) (n : ℕ) (s : State) (k : Kicked) (most : ℕ) → Sound d n s → Kicks d s.track most k → Sound d n (kickedState k s)
+-- the round keeps its stops, the queue holds stops
+pub kickedState-stands : (d : Legs) (n : ℕ) (s : State) (k : Kicked) (most : ℕ) → Stands n s.track s.queue → Kicks d s.track most k → Stands n (kickedState k s .track) (kickedState k s .queue)
 unfolding kickedState
-kickedState-sound d n s k most h c =
-    let e : length s.track.round ≡ n = h.size in
-    record {
-      perm = since-perm c.since h.perm;
-      size = since-length c.since ∙ e;
-      queued = pushAll-below n s.queue k.touched h.queued (subst (λ m. Below m k.touched) e c.stops);
-      carried = omega (arith, c.counted.legs, h.carried);
-    }
+kickedState-stands d n s k most h c = stands-since s.queue k.touched h c.since (subst (λ m. Below m k.touched) h.size c.stops)
 
-pub kick-sound : (d : Legs) (n kind x : ℕ) (s : State) → 1 ≤ n → Sound d n s → Sound d n (kickedState (kick d kind x s.track .made) s)
-kick-sound d n kind x s pos h = kickedState-sound d n s (kick d kind x s.track .made) 30 h (kick-kicks d s.track h.perm (omega (arith, h.size)) kind x)
+kickedState-time : (d : Legs) (n : ℕ) (s : State) (k : Kicked) (most : ℕ) → Sound d n s → Kicks d s.track most k → kickedState k s .time ≡ recount d (kickedState k s .track .round)
+unfolding kickedState
+kickedState-time d n s k most h c = omega (arith, c.counted.legs, h.carried)
+
+-- the carried time stays the recount
+pub kickedState-sound : (d : Legs) (n : ℕ) (s : State) (k : Kicked) (most : ℕ) → Sound d n s → Kicks d s.track most k → Sound d n (kickedState k s)
+kickedState-sound d n s k most h c = record { stands = kickedState-stands d n s k most h.stands c; carried = kickedState-time d n s k most h c }
 
 -- somebody waits after it
 pub kicked-some : (d : Legs) (s : State) (k : Kicked) (most : ℕ) → Kicks d s.track most k → 0 < length (kickedState k s .queue)

@@ -30,8 +30,9 @@ pub mod GainLaws
 pub mod StepLaws
 pub mod LkLaws
 pub mod Lk3Laws
-pub mod DescendLaws
 pub mod StepSinceLaws
+pub mod RunLaws
+pub mod DescendLaws
 pub mod KickTimeLaws
 pub mod KickLaws
 pub mod SpanLaws

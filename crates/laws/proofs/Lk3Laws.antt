@@ -15,44 +15,31 @@ use Rattle.rules.specs.Moves.{seq3}
 use Rattle.rules.specs.Plan.{Plan, alphaOf, legOf}
 use Rattle.rules.specs.Ring.{ahead, recount, succ}
 use Rattle.rules.specs.Step.{Step, begin, best, going}
-use Rattle.rules.specs.Words.{Legs, Stop, Time}
+use Rattle.rules.specs.Words.{Stop, Time}
 use Rattle.laws.proofs.ChoiceLaws.{by-gain, either-if, either-way}
-use Rattle.laws.proofs.EveryLaws.{All, Below, all-both, all-keep, all-map, more, none}
+use Rattle.laws.proofs.EveryLaws.{All, all-keep, all-map, more, none}
 use Rattle.laws.proofs.GainLaws.{Falls, Fit, closing-falls, falls-nothing, falls-time, orElse-falls, touching-falls}
-use Rattle.laws.proofs.LandLaws.{Lands}
-use Rattle.laws.proofs.PermLaws.{Perm, ahead-below}
-use Rattle.laws.proofs.StepLaws.{Going, all-best, begun, going-fit, going-on, going-perm, going-second, going-way}
+use Rattle.laws.proofs.PermLaws.{Perm}
+use Rattle.laws.proofs.StepLaws.{Going, all-best, begun, going-fit, going-on, going-perm, going-way}
 use Rattle.laws.proofs.TrialLaws.{Worth, trials-worth}
-use Rattle.laws.proofs.TrialStopLaws.{Stops, ends-below, trials-stops}
 use Rattle.laws.proofs.WayLaws.{Start}
 
--- a move that may be gone on with
-record Cont (d : Legs) (t : Track) (fwd : Bool) (t1 t2 : Stop) (g : Time) (x : Trial) : Type 0 where
-  lands : Lands d t.round (seq3 fwd x.case t1 t2 x.t3 x.t4 x.t5 x.t6 t .round) t1 x.t6 (x.partial + d t1 t2) (g + d x.t6 t1)
-  stops : Stops (length t.round) x
-
-worth-cont : (d : Legs) (t : Track) (fwd : Bool) (t1 t2 : Stop) (g : Time) (x : Trial) → Worth d t fwd t1 t2 g x → Stops (length t.round) x → Cont d t fwd t1 t2 g x
-unfolding Worth
-worth-cont d t fwd t1 t2 g x w s = record { lands = w; stops = s }
-
 module _ (p : Plan) (t0 : Track) (pm : Perm t0.round) (fit : Fit p (length t0.round)) (long : 3 ≤ length t0.round) (t1 : Stop) (base : Time) where
-  moved3-going : (fwd : Bool) (s : Step) (t2 : Stop) (g : Time) (x : Trial) → Going (legOf p) t0 t1 base s t2 g → Cont (legOf p) s.track fwd t1 t2 g x
+  moved3-going : (fwd : Bool) (s : Step) (t2 : Stop) (g : Time) (x : Trial) → Going (legOf p) t0 t1 base s t2 g → Worth (legOf p) s.track fwd t1 t2 g x
       → Going (legOf p) t0 t1 base (moved3 fwd t1 t2 s x) x.t6 x.partial
-  unfolding moved3
+  unfolding moved3 Worth
   moved3-going fwd s t2 g x h c =
-      going-on p t0 pm fit t1 base h (seq3 fwd x.case t1 t2 x.t3 x.t4 x.t5 x.t6 s.track) x.t6 x.partial (endsOf x) _ _ c.lands (ends-below (length s.track.round) x c.stops)
+      going-on p t0 pm fit t1 base h (seq3 fwd x.case t1 t2 x.t3 x.t4 x.t5 x.t6 s.track) x.t6 x.partial (endsOf x) _ _ c
 
   -- a deeper level's find, seen from the level above
-  lifted : (s : Step) (fwd : Bool) (t2 : Stop) (g : Time) (x : Trial) (f : Found) → Cont (legOf p) s.track fwd t1 t2 g x → Falls (legOf p) (moved3 fwd t1 t2 s x .track) base f → 0 < f.gain
+  lifted : (s : Step) (fwd : Bool) (t2 : Stop) (g : Time) (x : Trial) (f : Found) → Worth (legOf p) s.track fwd t1 t2 g x → Falls (legOf p) (moved3 fwd t1 t2 s x .track) base f → 0 < f.gain
       → Falls (legOf p) s.track base f
-  unfolding moved3 going
-  lifted s fwd t2 g x f c h q =
-      let l = c.lands in
-      record { gains = h.gains; stays = λ e. absurd (omega arith); same = λ v. h.same v ∙ l.same v; size = h.size ∙ l.size; stops = subst (λ n. Below n f.touched) l.size h.stops }
+  unfolding moved3 going Worth
+  lifted s fwd t2 g x f c h q = record { gains = h.gains; stays = λ e. absurd (omega arith); same = λ v. h.same v ∙ c.same v; size = h.size ∙ c.size }
 
   tryEach3-falls : (fwd : Bool) (t2 : Stop) (g : Time) (s : Step) (deeper : Step → Stop → Time → Found) (xs : List Trial) → Going (legOf p) t0 t1 base s t2 g
       → ((s′ : Step) (t2′ : Stop) (g′ : Time) → Going (legOf p) t0 t1 base s′ t2′ g′ → Falls (legOf p) s′.track base (deeper s′ t2′ g′))
-      → All (Cont (legOf p) s.track fwd t1 t2 g) xs → Falls (legOf p) s.track base (tryEach3 fwd t1 t2 s deeper xs)
+      → All (Worth (legOf p) s.track fwd t1 t2 g) xs → Falls (legOf p) s.track base (tryEach3 fwd t1 t2 s deeper xs)
   unfolding tryEach3
   tryEach3-falls fwd t2 g s deeper [] h m none = falls-nothing (legOf p) s.track base
   tryEach3-falls fwd t2 g s deeper (x ∷ xs) h m (more c a) =
@@ -71,24 +58,22 @@ module _ (p : Plan) (t0 : Track) (pm : Perm t0.round) (fit : Fit p (length t0.ro
       let fit′ : Fit p (length r) = going-fit p t0 pm fit t1 base h in
       let st : Start fwd r t1 t2 = subst (λ o. Start o r t1 t2) (sym (going-way p t0 pm fit t1 base h long)) h.start in
       let tried = trials (legOf p) (legOf p) (alphaOf p) keep fwd r t1 t2 g in
-      let worth : All (Worth (legOf p) s.track fwd t1 t2 g) tried = trials-worth (legOf p) s.track pm′ fit′.even fwd t1 t2 g (alphaOf p) fit′.alpha-good keep (λ P. all-keep) st in
-      let stops : All (Stops (length r)) tried = trials-stops (legOf p) (legOf p) (alphaOf p) keep (λ P. all-keep) fwd r pm′ fit′.alpha-good t1 t2 g (going-second p t0 pm fit t1 base h) in
+      let worth : All (Worth (legOf p) s.track fwd t1 t2 g) tried = trials-worth (legOf p) s.track pm′ fit′.even fwd t1 t2 g (alphaOf p) fit′.lists.alpha keep (λ P. all-keep) st in
       let f = firstClosing (legOf p) fwd t1 t2 s.track tried in
       let on = keep (mayGoOn p s t2) tried in
       let most = (if eqb levels 0 then [] else best (breadth3 (49 - levels)) [] on) in
-      let goes : All (Cont (legOf p) s.track fwd t1 t2 g) on =
-      all-map {P = λ x. (Worth (legOf p) s.track fwd t1 t2 g x × Stops (length r) x) × (mayGoOn p s t2 x ≡ true)} _ (λ x q. worth-cont (legOf p) s.track fwd t1 t2 g x (q .0 .0) (q .0 .1)) (all-keep (mayGoOn p s t2) tried (all-both tried worth stops)) in
+      let goes : All (Worth (legOf p) s.track fwd t1 t2 g) on = all-map {P = λ x. Worth (legOf p) s.track fwd t1 t2 g x × (mayGoOn p s t2 x ≡ true)} _ (λ x q. q .0) (all-keep (mayGoOn p s t2) tried worth) in
       by-gain (Falls (legOf p) s.track base) f.gain {x = tryEach3 fwd t1 t2 s (level3 p t1 levels) most} {y = λ k. touching s.stops f}
       (λ e. tryEach3-falls fwd t2 g s (level3 p t1 levels) most h (level3-falls levels)
-      (either-way (All (Cont (legOf p) s.track fwd t1 t2 g)) (eqb levels 0) none (all-best (Cont (legOf p) s.track fwd t1 t2 g) (breadth3 (49 - levels)) [] on none goes)))
-      (λ k e. touching-falls (legOf p) s.track base s.stops f (subst (λ n. Below n s.stops) (sym h.size) h.stops) (closing-falls (legOf p) s.track fwd t1 t2 g base h.legs tried worth stops))
+      (either-way (All (Worth (legOf p) s.track fwd t1 t2 g)) (eqb levels 0) none (all-best (Worth (legOf p) s.track fwd t1 t2 g) (breadth3 (49 - levels)) [] on none goes)))
+      (λ k e. touching-falls (legOf p) s.track base s.stops f (closing-falls (legOf p) s.track fwd t1 t2 g base h.legs tried worth))
 
 module _ (p : Plan) (t : Track) (pm : Perm t.round) (fit : Fit p (length t.round)) (t1 : Stop) (h1 : t1 < length t.round) where
   lk3Side-falls : (fwd : Bool) → 3 ≤ length t.round → Falls (legOf p) t (recount (legOf p) t.round) (lk3Side p t1 fwd t)
   unfolding lk3Side begin
   lk3Side-falls fwd long =
       let t2 = ahead fwd t.round t1 in
-      touching-falls (legOf p) t (recount (legOf p) t.round) (t1 ∷ t2 ∷ []) _ (more h1 (more (ahead-below t.round pm fwd t1 h1) none))
+      touching-falls (legOf p) t (recount (legOf p) t.round) (t1 ∷ t2 ∷ []) _
       (level3-falls p t pm fit long t1 (recount (legOf p) t.round) 50 (begin t t1 t2) t2 (legOf p t1 t2) (begun p t pm t1 h1 fwd))
 
   pub lk3From-falls : Falls (legOf p) t (recount (legOf p) t.round) (lk3From p t1 t)

@@ -18,31 +18,24 @@ use Rattle.rules.specs.Ring.{ahead, behind, recount}
 use Rattle.rules.specs.Step.{Step, begin}
 use Rattle.rules.specs.Words.{Legs, Stop, Time}
 use Rattle.laws.proofs.ChoiceLaws.{by-gain, either-if}
-use Rattle.laws.proofs.EveryLaws.{All, Below, all-image, all-keep, all-map, all-while, more, none}
+use Rattle.laws.proofs.EveryLaws.{All, all-image, all-keep, all-map, all-while, more, none}
 use Rattle.laws.proofs.GainLaws.{Falls, Fit, falls-nothing, falls-time, orElse-falls}
 use Rattle.laws.proofs.LandLaws.{Lands, flip-lands}
-use Rattle.laws.proofs.PermLaws.{Perm, ahead-below, behind-below}
+use Rattle.laws.proofs.PermLaws.{Perm}
 use Rattle.laws.proofs.ReadLaws.{Reads, reads-tally}
 use Rattle.laws.proofs.SpotLaws.{reads-seam}
 use Rattle.laws.proofs.StepLaws.{Going, all-best, begun, going-even, going-fit, going-on, going-perm, going-second, going-way}
 use Rattle.laws.proofs.TrialLaws.{weighed}
-use Rattle.laws.proofs.TrialStopLaws.{Stops, ends-below}
 use Rattle.laws.proofs.WayLaws.{CutAt, Start, cut-at}
 
 -- a flip that may be gone on with
-record Cont (d : Legs) (t : Track) (t1 t2 : Stop) (g : Time) (x : Trial) : Type 0 where
-  lands : Lands d t.round (flip t1 t2 x.t3 t .round) t1 x.t4 (x.partial + d t1 t2) (g + d x.t4 t1)
-  stops : Stops (length t.round) x
+unfoldable Cont : Legs → Track → Stop → Stop → Time → Trial → Type 0
+Cont d t t1 t2 g x = Lands d t.round (flip t1 t2 x.t3 t .round) t1 x.t4 (x.partial + d t1 t2) (g + d x.t4 t1)
 
 module _ (p : Plan) (s : Step) (pm : Perm s.track.round) (fit : Fit p (length s.track.round)) (long : 3 ≤ length s.track.round) (o : Bool) (t1 t2 : Stop) (g : Time) (st : Start o s.track.round t1 t2) where
   cont : (t3 : Stop) → t3 < length s.track.round → t3 ≢ t2 → legOf p t2 t3 < g → Cont (legOf p) s.track t1 t2 g (contOf p o s t2 g t3)
-  unfolding contOf
-  cont t3 h3 n2 hg =
-      let h4 = behind-below s.track.round pm o t3 h3 in
-      record {
-        lands = go (cut-at t2 st.rest t3 (omega (arith, pm.has t3 h3, reads-tally o s.track.round (t2 ∷ st.rest) st.reads t3)) n2);
-        stops = record { third = h3; fourth = h4; fifth = h4; sixth = h4 };
-      }
+  unfolding contOf Cont
+  cont t3 h3 n2 hg = go (cut-at t2 st.rest t3 (omega (arith, pm.has t3 h3, reads-tally o s.track.round (t2 ∷ st.rest) st.reads t3)) n2)
     where
       t4 : Stop
       t4 = behind o s.track.round t3
@@ -58,26 +51,25 @@ module _ (p : Plan) (s : Step) (pm : Perm s.track.round) (fit : Fit p (length s.
       all-map {P = λ x. Cont (legOf p) s.track t1 t2 g x × (mayFlip s t2 x ≡ true)} _ (λ x q. q .0) (all-keep _ _
       (all-image {P = λ t3. (((t3 < length s.track.round) × (t3 ≢ t2)) × (ltb (legOf p t2 t3) g ≡ true)) × (free3 o s.track.round t1 t2 t3 ≡ true)} _ _
       (λ t3 f. cont t3 (f .0 .0 .0) (f .0 .0 .1) (ltb-true (legOf p t2 t3) g (f .0 .1)))
-      (all-keep _ _ (all-while _ _ (fit.near-good t2 h2)))))
+      (all-keep _ _ (all-while _ _ (fit.lists.near t2 h2)))))
 
 -- the best closed gain so far
 record Gained (d : Legs) (t0 : Track) (base : Time) (b : Best) : Type 0 where
   gains : 0 < b.gain → recount d b.step.track.round + b.gain ≡ base
   same : (v : Stop) → tally b.step.track.round v ≡ tally t0.round v
   size : length b.step.track.round ≡ length t0.round
-  stops : Below (length t0.round) b.step.stops
 
 module _ (p : Plan) (t0 : Track) (pm : Perm t0.round) (fit : Fit p (length t0.round)) (long : 3 ≤ length t0.round) (t1 : Stop) (base : Time) where
   flipped-going : (s : Step) (t2 : Stop) (g : Time) (x : Trial) → Going (legOf p) t0 t1 base s t2 g → Cont (legOf p) s.track t1 t2 g x → Going (legOf p) t0 t1 base (flipped t1 t2 s x) x.t4 x.partial
-  unfolding flipped
-  flipped-going s t2 g x h c = going-on p t0 pm fit t1 base h (flip t1 t2 x.t3 s.track) x.t4 x.partial (endsOf x) _ _ c.lands (ends-below (length s.track.round) x c.stops)
+  unfolding flipped Cont
+  flipped-going s t2 g x h c = going-on p t0 pm fit t1 base h (flip t1 t2 x.t3 s.track) x.t4 x.partial (endsOf x) _ _ c
 
   better-gained : (s : Step) (t4 : Stop) (partial : Time) (b : Best) → Going (legOf p) t0 t1 base s t4 partial → Gained (legOf p) t0 base b → Gained (legOf p) t0 base (better b s partial (legOf p t4 t1))
   unfolding better
   better-gained s t4 partial b h k =
       either-if (Gained (legOf p) t0 base) (ltb (legOf p t4 t1 + b.gain) partial)
       (λ y. let q : legOf p t4 t1 + b.gain < partial = ltb-true (legOf p t4 t1 + b.gain) partial y in
-      record { gains = λ z. omega (arith, h.legs, going-even p t0 pm fit t1 base h); same = h.same; size = h.size; stops = h.stops })
+      record { gains = λ z. omega (arith, h.legs, going-even p t0 pm fit t1 base h); same = h.same; size = h.size })
       (λ y. k)
 
   tryEach-gained : (t2 : Stop) (g : Time) (s : Step) (b : Best) (deeper : Step → Stop → Time → Best → Best) (xs : List Trial) → Going (legOf p) t0 t1 base s t2 g → Gained (legOf p) t0 base b
@@ -110,11 +102,11 @@ module _ (p : Plan) (t : Track) (pm : Perm t.round) (fit : Fit p (length t.round
       let b₀ : Best = record { gain = 0; step = s } in
       let b = deepen p t1 25 s t2 (legOf p t1 t2) b₀ in
       let h = begun p t pm t1 h1 fwd in
-      let k : Gained (legOf p) t (recount (legOf p) t.round) b₀ = record { gains = λ q. absurd (omega arith); same = h.same; size = h.size; stops = h.stops } in
+      let k : Gained (legOf p) t (recount (legOf p) t.round) b₀ = record { gains = λ q. absurd (omega arith); same = h.same; size = h.size } in
       let g = deepen-gained p t pm fit long t1 (recount (legOf p) t.round) 25 s t2 (legOf p t1 t2) b₀ h k in
       by-gain (Falls (legOf p) t (recount (legOf p) t.round)) b.gain {x = nothing t} {y = λ g. record { gain = suc g; track = b.step.track; touched = t1 ∷ t2 ∷ b.step.stops }}
       (λ e. falls-nothing (legOf p) t (recount (legOf p) t.round))
-      (λ m e. record { gains = λ q. omega (arith, g.gains (omega arith)); stays = λ q. absurd (omega arith); same = g.same; size = g.size; stops = more h1 (more (ahead-below t.round pm fwd t1 h1) g.stops) })
+      (λ m e. record { gains = λ q. omega (arith, g.gains (omega arith)); stays = λ q. absurd (omega arith); same = g.same; size = g.size })
 
   pub lkFrom-falls : Falls (legOf p) t (recount (legOf p) t.round) (lkFrom p t1 t)
   unfolding lkFrom

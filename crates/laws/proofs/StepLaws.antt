@@ -17,7 +17,7 @@ use Rattle.rules.specs.Step.{Step, begin, best, going, insert}
 use Rattle.rules.specs.Words.{Legs, Stop, Time}
 use Rattle.laws.proofs.ChoiceLaws.{either-way}
 use Rattle.laws.proofs.EvenLaws.{below-end, below-head}
-use Rattle.laws.proofs.EveryLaws.{All, Below, all-join, all-take, more, none}
+use Rattle.laws.proofs.EveryLaws.{All, Below, all-take, more, none}
 use Rattle.laws.proofs.FlipLaws.{way-is}
 use Rattle.laws.proofs.GainLaws.{Fit}
 use Rattle.laws.proofs.LandLaws.{Lands}
@@ -44,7 +44,6 @@ pub record Going (d : Legs) (t0 : Track) (t1 : Stop) (base : Time) (s : Step) (t
   pub legs : recount d s.track.round + g ≡ base + d t1 t2
   pub same : (v : Stop) → tally s.track.round v ≡ tally t0.round v
   pub size : length s.track.round ≡ length t0.round
-  pub stops : Below (length t0.round) s.stops
 
 module _ (p : Plan) (t0 : Track) (pm : Perm t0.round) (fit : Fit p (length t0.round)) (t1 : Stop) (base : Time) where
   module _ {s : Step} {t2 : Stop} {g : Time} (h : Going (legOf p) t0 t1 base s t2 g) where
@@ -74,10 +73,10 @@ module _ (p : Plan) (t0 : Track) (pm : Perm t0.round) (fit : Fit p (length t0.ro
 
     -- gone on with by a move that lands
     pub going-on : (t : Track) (last : Stop) (partial : Time) (stops : List Stop) (added removed : List Leg)
-        → Lands (legOf p) s.track.round t.round t1 last (partial + legOf p t1 t2) (g + legOf p last t1) → Below (length s.track.round) stops
+        → Lands (legOf p) s.track.round t.round t1 last (partial + legOf p t1 t2) (g + legOf p last t1)
         → Going (legOf p) t0 t1 base (going s t stops added removed) last partial
     unfolding going
-    going-on t last partial stops added removed l b =
+    going-on t last partial stops added removed l =
         let after : Perm t.round = perm-kept s.track.round t.round going-perm l.same l.size in
         let k : last < length t0.round = omega (arith, below-head (length t.round) last l.rest (reads-below t.round after l.way (last ∷ l.rest) l.reads), l.size, h.size) in
         let k1 : t1 < length t0.round = omega (arith, going-first, h.size) in
@@ -87,11 +86,10 @@ module _ (p : Plan) (t0 : Track) (pm : Perm t0.round) (fit : Fit p (length t0.ro
           legs = omega (arith, l.legs, h.legs, fit.even last t1 k k1);
           same = λ v. l.same v ∙ h.same v;
           size = l.size ∙ h.size;
-          stops = all-join s.stops stops h.stops (subst (λ n. Below n stops) h.size b);
         }
 
 -- the leg t1-t2 goes first
 pub begun : (p : Plan) (t : Track) → Perm t.round → (t1 : Stop) → t1 < length t.round → (fwd : Bool)
     → Going (legOf p) t t1 (recount (legOf p) t.round) (begin t t1 (ahead fwd t.round t1)) (ahead fwd t.round t1) (legOf p t1 (ahead fwd t.round t1))
 unfolding begin
-begun p t pm t1 h1 fwd = record { way = fwd; start = start t.round pm fwd t1 (pm.has t1 h1); legs = refl; same = λ v. refl; size = refl; stops = none }
+begun p t pm t1 h1 fwd = record { way = fwd; start = start t.round pm fwd t1 (pm.has t1 h1); legs = refl; same = λ v. refl; size = refl }

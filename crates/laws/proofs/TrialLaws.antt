@@ -12,6 +12,7 @@ use Rattle.rules.specs.Improve.{Scan, Trial, free3, free5, side, sixths, trials
 use Rattle.rules.specs.Journal.{Track}
 use Rattle.rules.specs.Lists.{each, keep, tally}
 use Rattle.rules.specs.Moves.{Case, flip, flips, inner, orMove, segment, seq3, two}
+use Rattle.rules.specs.Plan.{Plan, alphaOf, nearOf}
 use Rattle.rules.specs.Ring.{ahead, behind, beside, between, pred, succ}
 use Rattle.rules.specs.Words.{Legs, Round, Stop, Time}
 use Rattle.laws.proofs.ChoiceLaws.{either-if, nor-true}
@@ -30,6 +31,11 @@ use Rattle.laws.proofs.WayLaws.{CutAfter, CutAt, Start, cut-after, cut-
 -- list entries are below n and not the stop itself
 abbrev pub GoodList : ℕ → (Stop → List Stop) → Type 0
 GoodList n list = (v : Stop) → v < n → All (λ w. (w < n) × (w ≢ v)) (list v)
+
+-- the lists of a plan for n stops
+pub record Lists (p : Plan) (n : ℕ) : Type 0 where
+  pub near : GoodList n (nearOf p)
+  pub alpha : GoodList n (alphaOf p)
 
 -- a scan keeps entries that pass its test
 abbrev pub Scans : Scan → Type 1
