@@ -124,6 +124,9 @@ kickedState-time d n s k most h c = omega (arith, c.counted.legs, h.carried)
 pub kickedState-sound : (d : Legs) (n : ℕ) (s : State) (k : Kicked) (most : ℕ) → Sound d n s → Kicks d s.track most k → Sound d n (kickedState k s)
 kickedState-sound d n s k most h c = record { stands = kickedState-stands d n s k most h.stands c; carried = kickedState-time d n s k most h c }
 
+pub kick-sound : (d : Legs) (n kind x : ℕ) (s : State) → 1 ≤ n → Sound d n s → Sound d n (kickedState (kick d kind x s.track .made) s)
+kick-sound d n kind x s pos h = kickedState-sound d n s (kick d kind x s.track .made) 30 h (kick-kicks d s.track h.stands.perm (omega (arith, h.stands.size)) kind x)
+
 -- somebody waits after it
 pub kicked-some : (d : Legs) (s : State) (k : Kicked) (most : ℕ) → Kicks d s.track most k → 0 < length (kickedState k s .queue)
 unfolding kickedState

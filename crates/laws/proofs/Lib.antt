@@ -37,3 +37,6 @@ pub mod KickTimeLaws
 pub mod KickLaws
 pub mod SpanLaws
 pub mod KickedLaws
+pub mod StateLaws
+pub mod SearchLaws
+pub mod SearchTimeLaws
