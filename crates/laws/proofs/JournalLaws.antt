@@ -1,5 +1,5 @@
 -- 01, 5: an entry in range is taken back, and any entries in range since a mark lead back to the track of the mark.
-use Prim.Native.Nat.{_+_, _-_, _≤_, suc, ℕ}
+use Prim.Native.Nat.{_+_, _-_, _≤_, suc, zero, ℕ}
 use mathlib.Core.Path.{_∙_, _≡_, ap, refl, sym}
 use mathlib.Core.Bool.{true}
 use mathlib.Core.List.{List, [], _++_, _∷_, append-assoc, append-nil}
@@ -7,12 +7,11 @@ use native.Mathlib.Omega.{arith}
 use lib.Dec.{leb, ltb}
 use lib.ListN.{length, length-append}
 use borrow.Author.Tests.{leb-true, ltb-true}
-use Rattle.rules.specs.Journal.{Entry, Track, carryOut, doing, inRange, reversal, rollback, rotation, swap, takeBack, undoAll}
+use Rattle.rules.specs.Journal.{Entry, Track, carryOut, doing, entriesOf, inRange, reversal, rollback, rotation, swap, takeBack, undoAll}
 use Rattle.rules.specs.Lists.{every}
 use Rattle.rules.specs.Words.{Round}
 use Rattle.laws.proofs.ChoiceLaws.{and-true, both-true}
 use Rattle.laws.proofs.RewriteLaws.{reverseAt-length, reverseAt-undone, rotateAt-length, rotateAt-undone, swapAt-length, swapAt-undone}
-use Rattle.laws.proofs.TimeLaws.{back}
 
 pub carryOut-length : (e : Entry) (r : Round) → length (carryOut e r) ≡ length r
 unfolding carryOut
@@ -129,3 +128,9 @@ past-rollback {t} {t′} p = past-deeper (length (t .journal)) p (omega arith) �
 pub past-undone : {t t′ : Track} → Past t t′ → t .journal ≡ [] → undoAll (t′ .journal) (t′ .round) ≡ t .round
 past-undone {t} {t′} p e =
     ap (λ (l : List Entry). undoAll l (t′ .round)) (p .grown ∙ ap (λ (l : List Entry). p .newer ++ l) e ∙ append-nil (p .newer)) ∙ p .back
+
+-- ---- what the words of a journal stand for
+pub entriesOf-length : (ws : List ℕ) (held : ℕ) → length (entriesOf ws held) ≡ held
+unfolding entriesOf
+entriesOf-length ws zero = refl
+entriesOf-length ws (suc i) = ap suc (entriesOf-length ws i)

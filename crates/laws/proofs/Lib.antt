@@ -40,3 +40,4 @@ pub mod KickedLaws
 pub mod StateLaws
 pub mod SearchLaws
 pub mod SearchTimeLaws
+pub mod CheckLaws
