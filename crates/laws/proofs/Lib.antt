@@ -41,3 +41,5 @@ pub mod StateLaws
 pub mod SearchLaws
 pub mod SearchTimeLaws
 pub mod CheckLaws
+pub mod ScanLaws
+pub mod DrawLaws
