@@ -38,6 +38,7 @@ pub mod KickLaws
 pub mod SpanLaws
 pub mod KickedLaws
 pub mod StateLaws
+pub mod StartLaws
 pub mod SearchLaws
 pub mod SearchTimeLaws
 pub mod CheckLaws

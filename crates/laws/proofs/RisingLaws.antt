@@ -25,7 +25,7 @@ unfolding every rising
 rising-every p zero a h = refl
 rising-every p (suc count) a h = rw (h a (omega arith) (omega arith), every) (rising-every p count (a + 1) (λ v l k. h v (omega arith) (omega arith)))
 
-rising-length : (count a : ℕ) → length (rising count a) ≡ count
+pub rising-length : (count a : ℕ) → length (rising count a) ≡ count
 unfolding rising
 rising-length zero a = refl
 rising-length (suc count) a = ap suc (rising-length count (a + 1))

@@ -14,7 +14,8 @@ use Rattle.rules.specs.Kicks.{kick, kickedState}
 use Rattle.rules.specs.Lists.{if_then_else_}
 use Rattle.rules.specs.Plan.{Plan, legOf}
 use Rattle.rules.specs.Ring.{isRound, recount}
-use Rattle.rules.specs.Search.{Answer, Settings, Walk, kickedOnce, margin, restartAfter, restarted, searchFrom, shaken, stopAfter, turned, turns}
+use Rattle.rules.specs.Search.{Answer, Settings, Walk, kickedOnce, margin, restartAfter, restarted, search, searchFrom, shaken, stopAfter, turned, turns}
+use Rattle.rules.specs.Start.{startRound}
 use Rattle.rules.specs.State.{State, activated, load, undo}
 use Rattle.rules.specs.Words.{Legs, Round, Time}
 use Rattle.laws.proofs.ChoiceLaws.{either-if, either-way}
@@ -24,6 +25,7 @@ use Rattle.laws.proofs.KickedLaws.{kick-sound}
 use Rattle.laws.proofs.PermLaws.{perm-round, round-length, round-perm}
 use Rattle.laws.proofs.RunLaws.{committed-empty}
 use Rattle.laws.proofs.SearchLaws.{Walks, turn-took}
+use Rattle.laws.proofs.StartLaws.{start-round}
 use Rattle.laws.proofs.StateLaws.{activated-sound, commit-sound, load-sound}
 
 shaken-sound : (d : Legs) (n : ℕ) → 1 ≤ n → (count kind x : ℕ) (s : State) → Sound d n s → Sound d n (shaken d count kind s x .state)
@@ -36,6 +38,12 @@ pub record Timed (d : Legs) (n : ℕ) (w : Walk) : Type 0 where
   pub walks : Walks n w
   pub carried : w.state.time ≡ recount d w.state.track.round
   pub best-carried : w.bestTime ≡ recount d w.best
+
+-- the answer is a round of all n stops, its time the recount, its units no more than the budget
+pub record Answers (p : Plan) (n budget : ℕ) (a : Answer) : Type 0 where
+  pub whole : isRound n a.round ≡ true
+  pub timed : a.time ≡ recount (legOf p) a.round
+  pub within-budget : a.units ≤ budget
 
 undo-time : (d : Legs) (s : State) → undo (recount d) s .time ≡ recount d (undo (recount d) s .track .round)
 unfolding undo load
@@ -95,15 +103,9 @@ module _ (p : Plan) (o : Settings) (n : ℕ) (pos : 1 ≤ n) (fit : Fit p n) (ro
       let t = turn-took p o n pos fit.lists room slack (w.left - 1) w l g.walks in
       turns-timed slack fuel (turned p o slack w) (omega (arith, t.less)) (turn-timed slack (w.left - 1) w l g)))
 
-  -- the answer is a round of all n stops, its time the recount, its units no more than the budget
-  pub record Answers (a : Answer) : Type 0 where
-    pub whole : isRound n a.round ≡ true
-    pub timed : a.time ≡ recount (legOf p) a.round
-    pub within-budget : a.units ≤ o.budget
-
-  pub search-answers : (r : Round) → isRound n r ≡ true → Answers (searchFrom p o r)
+  pub searchFrom-answers : (r : Round) → isRound n r ≡ true → Answers p n o.budget (searchFrom p o r)
   unfolding searchFrom
-  search-answers r e =
+  searchFrom-answers r e =
       let d = legOf p in
       let h = activated-sound d n (load (recount d) r) (load-sound d n r (round-perm n r e) (round-length n r e)) in
       let s = activated (load (recount d) r) in
@@ -119,3 +121,8 @@ module _ (p : Plan) (o : Settings) (n : ℕ) (pos : 1 ≤ n) (fit : Fit p n) (ro
       let w = turns p o (margin p.n time) g.left first in
       let t = turns-timed (margin p.n time) g.left first (le-refl g.left) begins in
       record { whole = subst (λ m. isRound m w.best ≡ true) t.walks.best-size (perm-round w.best t.walks.best-perm); timed = t.best-carried; within-budget = omega arith }
+
+-- "then loads the start round"
+pub search-answers : (p : Plan) (o : Settings) → 1 ≤ p.n → Fit p p.n → 130 ≤ o.room → Answers p p.n o.budget (search p o)
+unfolding search
+search-answers p o pos fit room = searchFrom-answers p o p.n pos fit room (startRound (legOf p) p.n) (start-round (legOf p) p.n pos)
