@@ -21,10 +21,11 @@ module _ {A : Type 0} (Q : A → Type 0) where
   by-gain zero h k = h refl
   by-gain (suc g) h k = k g refl
 
+-- true is not false
 pub true-false : true ≡ false → ⊥
 true-false e = subst T e tt
 
--- two tests that both hold, two tests of which none does
+-- two tests that both hold
 pub and-true : (a b : Bool) → (a && b) ≡ true → (a ≡ true) × (b ≡ true)
 and-true true b e = (refl, e)
 and-true false b e = absurd (true-false (sym e))
@@ -34,11 +35,13 @@ pub both-true : (a b : Bool) → (if a then b else false) ≡ true → (a ≡ tr
 both-true true b e = (refl, e)
 both-true false b e = absurd (true-false (sym e))
 
+-- two tests of which none does
 pub nor-true : (a b : Bool) → not (a || b) ≡ true → (a ≡ false) × (b ≡ false)
 nor-true true b e = absurd (true-false (sym e))
 nor-true false true e = absurd (true-false (sym e))
 nor-true false false e = (refl, refl)
 
+-- or with a known test
 pub or-false : (a : Bool) → (a || false) ≡ a
 or-false true = refl
 or-false false = refl

@@ -17,6 +17,10 @@ use Rattle.laws.proofs.TurnLaws.{On, on-below, on-from, turn-length, tu
 abbrev pub Even : Legs → ℕ → Type 0
 Even d n = (a b : Stop) → a < n → b < n → d a b ≡ d b a
 
+-- between the places a, s, e and b of a round the legs a-s and e-b go, a-e and s-b come
+abbrev pub Reversed : Legs → Round → Place → Place → Place → Place → Round → Type 0
+Reversed d r a s e b after = recount d after + (d (at r a) (at r s) + d (at r e) (at r b)) ≡ recount d r + (d (at r a) (at r e) + d (at r s) (at r b))
+
 pub below-head : (n : ℕ) (a : Stop) (A : List Stop) → Below n (a ∷ A) → a < n
 below-head n a A (more h b) = h
 
@@ -65,13 +69,9 @@ module _ (d : Legs) (n : ℕ) (even : Even d n) where
       omega (arith, reverse-time a A b B low, ap₂ d top (refl {a = a}), ap₂ d lows mid, ap₂ d top lows, ap₂ d (refl {a = a}) mid)
 
   module _ (r : Round) (low : Below n r) where
-    -- the legs a-s and e-b go, a-e and s-b come
-    abbrev pub Reversed : Place → Place → Place → Place → Round → Type 0
-    Reversed a s e b after = recount d after + (d (at r a) (at r s) + d (at r e) (at r b)) ≡ recount d r + (d (at r a) (at r e) + d (at r s) (at r b))
-
     -- `reverse_positions` of the places from s on: a is the place before them, e the last of them, b the place after
     pub reverseAt-time : (a s e b : Place) (len : ℕ) → s < length r → 0 < len → len < length r
-        → On (length r) s (length r - 1) a → On (length r) s (len - 1) e → On (length r) s len b → Reversed a s e b (reverseAt s len r)
+        → On (length r) s (length r - 1) a → On (length r) s (len - 1) e → On (length r) s len b → Reversed d r a s e b (reverseAt s len r)
     unfolding reverseAt reverseFront turn
     reverseAt-time a s e b len hs h k oa oe ob =
         let x = turn s r in
@@ -88,7 +88,7 @@ module _ (d : Legs) (n : ℕ) (even : Even d n) where
 
     -- "the complement is reversed instead": the same legs go and come
     pub complement-time : (a s e b : Place) (len : ℕ) → s < length r → 0 < len → len < length r
-        → On (length r) s (length r - 1) a → On (length r) s (len - 1) e → On (length r) s len b → Reversed a s e b (reverseAt b (length r - len) r)
+        → On (length r) s (length r - 1) a → On (length r) s (len - 1) e → On (length r) s len b → Reversed d r a s e b (reverseAt b (length r - len) r)
     complement-time a s e b len hs h k oa oe ob =
         let hb : b < length r = on-below (length r) s len b hs k ob in
         let ha : a < length r = on-below (length r) s (length r - 1) a hs (omega arith) oa in

@@ -17,10 +17,6 @@ pub all-map : {A : Type 0} {P Q : A → Type 0} (xs : List A) → ((x : A) → P
 all-map [] f none = none
 all-map (x ∷ xs) f (more p a) = more (f x p) (all-map xs f a)
 
-pub all-both : {A : Type 0} {P Q : A → Type 0} (xs : List A) → All P xs → All Q xs → All (λ x. P x × Q x) xs
-all-both [] none none = none
-all-both (x ∷ xs) (more p a) (more q b) = more (p, q) (all-both xs a b)
-
 pub all-join : {A : Type 0} {P : A → Type 0} (xs ys : List A) → All P xs → All P ys → All P (xs ++ ys)
 all-join [] ys none b = b
 all-join (x ∷ xs) ys (more p a) b = more p (all-join xs ys a b)

@@ -26,7 +26,7 @@ use Rattle.laws.proofs.TimeLaws.{back, end, end-at, end-join}
 use Rattle.laws.proofs.TurnLaws.{On, on-below}
 
 -- a stretch reversed where the reading begins
-pub reverseAt-turned : (r M W : List Stop) (s : Spot r (M ++ W)) (m : ℕ) → length M ≡ m → Turned (reverseAt s.place m r) (reverse M ++ W)
+reverseAt-turned : (r M W : List Stop) (s : Spot r (M ++ W)) (m : ℕ) → length M ≡ m → Turned (reverseAt s.place m r) (reverse M ++ W)
 unfolding reverseAt from reverseFront
 reverseAt-turned r M W s m e = rw (s.is, take-at M W m e, drop-at M W m e) (turn-turned (length r - s.place) (reverse M ++ W))
 
@@ -35,9 +35,9 @@ pub record Either (r x : List Stop) : Type 0 where
   pub way : Bool
   pub reads : Reads way r x
 
-pub record Stretched (r x : List Stop) (w : Stretch) : Type 0 where
-  pub fits : w.start ≤ length r
-  pub gives : Either (reverseAt w.start w.len r) x
+record Stretched (r x : List Stop) (w : Stretch) : Type 0 where
+  fits : w.start ≤ length r
+  gives : Either (reverseAt w.start w.len r) x
 
 -- from a's place to the place of the last stop before b
 module _ (r : Round) (u : Perm r) (a : Stop) (A : List Stop) (b : Stop) (B : List Stop) (t : Turned r ((a ∷ A) ++ (b ∷ B))) where
@@ -71,7 +71,7 @@ module _ (r : Round) (u : Perm r) (a : Stop) (A : List Stop) (b : Stop) (B : Lis
       (record { fits = omega arith; gives = rw zb (record { way = false; reads = rw (reverse-append (reverse M) W, reverse-reverse M) (reverseAt-turned r W M z (n - len) lw) }) })
       (record { fits = omega arith; gives = record { way = true; reads = subst (λ k. Turned (reverseAt k len r) (reverse M ++ W)) (sym pa) (reverseAt-turned r M W s len (sym il)) } })
 
-pub reversing-reads : (t : Track) → Perm t.round → (a : Stop) (A : List Stop) (b : Stop) (B : List Stop) → Turned t.round ((a ∷ A) ++ (b ∷ B))
+reversing-reads : (t : Track) → Perm t.round → (a : Stop) (A : List Stop) (b : Stop) (B : List Stop) → Turned t.round ((a ∷ A) ++ (b ∷ B))
     → Either (reversing (place t.round a) (place t.round (end a A)) t .round) (reverse (a ∷ A) ++ (b ∷ B))
 reversing-reads t u a A b B h =
     let g = stretch-reads t.round u a A b B h in

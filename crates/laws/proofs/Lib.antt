@@ -44,3 +44,4 @@ pub mod SearchTimeLaws
 pub mod CheckLaws
 pub mod ScanLaws
 pub mod DrawLaws
+pub mod BoundLaws

@@ -26,7 +26,7 @@ use Rattle.laws.proofs.ReadLaws.{Reads, reads-tally}
 use Rattle.laws.proofs.SpotLaws.{reads-seam}
 use Rattle.laws.proofs.StepLaws.{Going, all-best, begun, going-even, going-fit, going-on, going-perm, going-second, going-way}
 use Rattle.laws.proofs.TrialLaws.{weighed}
-use Rattle.laws.proofs.WayLaws.{CutAt, Start, cut-at}
+use Rattle.laws.proofs.WayLaws.{CutAt, Start, at-it, cut-at}
 
 -- a flip that may be gone on with
 unfoldable Cont : Legs → Track → Stop → Stop → Time → Trial → Type 0
@@ -41,7 +41,7 @@ module _ (p : Plan) (s : Step) (pm : Perm s.track.round) (fit : Fit p (length s.
       t4 = behind o s.track.round t3
 
       go : CutAt t2 st.rest t3 → Lands (legOf p) s.track.round (flip t1 t2 t3 s.track .round) t1 t4 (g - legOf p t2 t3 + legOf p t3 t4 + legOf p t1 t2) (g + legOf p t4 t1)
-      go (CutAt.parts P Q e f) =
+      go (at-it P Q e f) =
           let l : Reads o s.track.round ((t2 ∷ P) ++ (t3 ∷ Q)) = subst (λ x. Reads o s.track.round (t2 ∷ x)) e st.reads in
           weighed (flip-lands (legOf p) s.track pm fit.even o long t2 P t3 Q l t1 t4 (f ∙ st.ends) (sym (reads-seam s.track.round pm o t2 P t3 Q l .behind-is))) _ _ (omega arith)
 

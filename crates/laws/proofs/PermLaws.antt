@@ -10,7 +10,7 @@ use native.Mathlib.Omega.{arith}
 use lib.Dec.{eqb, ltb}
 use lib.ListN.{length}
 use borrow.Author.Tests.{eq-eqb, eqb-true, lt-ltb, ltb-false, ltb-true}
-use Rattle.rules.specs.Lists.{at, every, has, if_then_else_, once, one, rising, tally}
+use Rattle.rules.specs.Lists.{at, every, if_then_else_, one, rising, tally}
 use Rattle.rules.specs.Ring.{ahead, behind, isRound, next, place, pred, prev, succ}
 use Rattle.rules.specs.Words.{Place, Round, Stop}
 use Rattle.laws.proofs.ChoiceLaws.{and-true, either-if, either-way}
@@ -38,7 +38,7 @@ unfolding tally
 tally-below n [] h = none
 tally-below n (a ∷ x) h = more (h a (tally-at (a ∷ x) 0 (omega arith))) (tally-below n x (λ v q. h v (omega arith)))
 
-pub below-tally : (n : ℕ) (x : List Stop) → Below n x → (v : Stop) → 0 < tally x v → v < n
+below-tally : (n : ℕ) (x : List Stop) → Below n x → (v : Stop) → 0 < tally x v → v < n
 unfolding tally
 below-tally n [] none v h = absurd (not-suc-le-zero h)
 below-tally n (a ∷ x) (more k b) v h = elim (ℕ-discrete a v) [ yes e ↦ subst (λ w. w < n) e k | no ne ↦ below-tally n x b v (omega (arith, one-other ne)) ]

@@ -1,8 +1,8 @@
 -- The ring read from any of its places, in either direction: what turning and reversal leave alone.
 use Prim.Native.Nat.{ℕ}
 use mathlib.Core.Path.{_∙_, _≡_, ap, refl, sym}
-use mathlib.Core.Bool.{Bool, false, not, true}
-use mathlib.Core.List.{List, [], _++_, _∷_, append-assoc, append-nil, reverse, reverse-append, reverse-reverse}
+use mathlib.Core.Bool.{Bool, false, true}
+use mathlib.Core.List.{List, [], _++_, _∷_, append-assoc, append-nil, reverse, reverse-append}
 use native.Mathlib.Omega.{arith}
 use lib.ListN.{drop, length, length-append, length-reverse, take, take-append-drop}
 use Rattle.rules.specs.Lists.{at, tally}
@@ -38,6 +38,7 @@ cut (y ∷ Y) X (a ∷ A) B e =
     go h (short C p q) = short C (cc) q
     go h (long C p q) = long C (cc) q
 
+-- from its first place; from another place
 pub turned-self : (r : Round) → Turned r r
 turned-self r = record { front = []; rest = r; is = refl; to = sym (append-nil r) }
 
@@ -48,17 +49,19 @@ turned-turn r A B t = go (cut t.rest t.front A B (sym t.to))
     go (short C p q) = record { front = t.front ++ A; rest = C; is = t.is ∙ ap (λ l. t.front ++ l) p ∙ sym (append-assoc t.front A C); to = ap (λ l. l ++ A) q ∙ append-assoc C t.front A }
     go (long C p q) = record { front = C; rest = B ++ t.rest; is = t.is ∙ ap (λ l. l ++ t.rest) q ∙ append-assoc C B t.rest; to = ap (λ l. B ++ l) p ∙ sym (append-assoc B t.rest C) }
 
+-- turned back
 pub turn-turned : (k : ℕ) (z : List Stop) → Turned (turn k z) z
 unfolding turn
 turn-turned k z = record { front = drop k z; rest = take k z; is = refl; to = sym (take-append-drop k z) }
 
-pub turned-tally : (r x : List Stop) → Turned r x → (v : Stop) → tally x v ≡ tally r v
+-- the same stops, the same time
+turned-tally : (r x : List Stop) → Turned r x → (v : Stop) → tally x v ≡ tally r v
 turned-tally r x t v = omega (arith, tally-join v t.front t.rest, tally-join v t.rest t.front, ap (λ l. tally l v) t.is, ap (λ l. tally l v) t.to)
 
 pub turned-length : (r x : List Stop) → Turned r x → length x ≡ length r
 turned-length r x t = omega (arith, length-append t.front t.rest, length-append t.rest t.front, ap length t.is, ap length t.to)
 
-pub turned-time : (d : Legs) (r x : List Stop) → Turned r x → recount d x ≡ recount d r
+turned-time : (d : Legs) (r x : List Stop) → Turned r x → recount d x ≡ recount d r
 turned-time d r x t = ap (recount d) t.to ∙ halves d t.rest t.front ∙ sym (ap (recount d) t.is)
 
 -- ---- read in a direction
@@ -66,15 +69,11 @@ unfoldable pub Reads : Bool → List Stop → List Stop → Type 0
 Reads true r x = Turned r x
 Reads false r x = Turned r (reverse x)
 
+-- begun elsewhere; the same stops
 pub reads-turn : (o : Bool) (r A B : List Stop) → Reads o r (A ++ B) → Reads o r (B ++ A)
 unfolding Reads
 reads-turn true r A B t = turned-turn r A B t
 reads-turn false r A B t = rw reverse-append (turned-turn r (reverse B) (reverse A) (rw reverse-append at t))
-
-pub reads-back : (o : Bool) (r x : List Stop) → Reads o r x → Reads (not o) r (reverse x)
-unfolding Reads
-reads-back true r x t = rw reverse-reverse t
-reads-back false r x t = t
 
 pub reads-tally : (o : Bool) (r x : List Stop) → Reads o r x → (v : Stop) → tally x v ≡ tally r v
 unfolding Reads

@@ -17,10 +17,11 @@ use Rattle.laws.proofs.TurnLaws.{On, low, on-below, on-mod, turn-on}
 
 -- a place from which the ring reads x
 pub record Spot (r x : List Stop) : Type 0 where
-  pub place : ℕ
+  pub place : Place
   pub below : place < length r
   pub is : turn place r ≡ x
 
+-- there is one
 pub spot : (r : Round) (a : Stop) (A : List Stop) → Turned r (a ∷ A) → Spot r (a ∷ A)
 unfolding turn
 spot r a A t = go t.rest t.is t.to
@@ -38,6 +39,7 @@ spot r a A t = go t.rest t.is t.to
         }
 
 module _ (r x : List Stop) (u : Perm r) (s : Spot r x) where
+  -- the stop i steps after it is element i, and stands there
   pub at-on : (i : ℕ) (p : Place) → i < length r → On (length r) s.place i p → at r p ≡ at x i
   at-on i p h o = let b : s.place < length r = s.below in sym (turn-on s.place i p r (omega arith) h o) ∙ ap (λ y. at y i) s.is
 
@@ -48,14 +50,14 @@ module _ (r x : List Stop) (u : Perm r) (s : Spot r x) where
       let e : place r (at x i) ≡ p = ap (place r) (sym (at-on i p h o)) ∙ perm-place r u p (on-below (length r) s.place i p s.below h o) in
       rw e o
 
--- ---- the stops beside a stop
+-- ---- the stops beside a stop: w is just after v in the direction
 pub record Joined (o : Bool) (r : Round) (v w : Stop) : Type 0 where
   pub ahead-is : ahead o r v ≡ w
   pub behind-is : behind o r w ≡ v
 
 module _ (r : Round) (u : Perm r) where
   -- a reading that begins with a: its last stop is just before a
-  pub turned-join : (a : Stop) (A : List Stop) → Turned r (a ∷ A) → Joined true r (end a A) a
+  turned-join : (a : Stop) (A : List Stop) → Turned r (a ∷ A) → Joined true r (end a A) a
   unfolding ahead behind succ pred
   turned-join a A t =
       let s = spot r a A t in

@@ -56,7 +56,7 @@ module _ (p : Plan) (t0 : Track) (pm : Perm t0.round) (fit : Fit p (length t0.ro
     low : Below (length s.track.round) (t2 ∷ h.start.rest)
     low = reads-below s.track.round going-perm h.way (t2 ∷ h.start.rest) h.start.reads
 
-    pub going-first : t1 < length s.track.round
+    going-first : t1 < length s.track.round
     going-first = subst (λ v. v < length s.track.round) h.start.ends (below-end (length s.track.round) t2 h.start.rest low)
 
     pub going-second : t2 < length s.track.round

@@ -72,8 +72,8 @@ reversing-is s e t h =
     let w = stretch (length t.round) s e in
     either-if (λ (u : Track). u.round ≡ reverseAt w.start w.len t.round) (ltb w.len 2) (λ y. sym (reverseAt-short w.start w.len t.round h (ltb-true w.len 2 y))) (λ y. refl)
 
-stretch-time : (d : Legs) (r : Round) (even : Even d (length r)) (below : Below (length r) r) (s e : Place) → s < length r → e < length r → lenOf (length r) s e < length r
-    → Reversed d (length r) even r below (prev (length r) s) s e (next (length r) e) (reverseAt (stretch (length r) s e .start) (stretch (length r) s e .len) r)
+stretch-time : (d : Legs) (r : Round) → Even d (length r) → Below (length r) r → (s e : Place) → s < length r → e < length r → lenOf (length r) s e < length r
+    → Reversed d r (prev (length r) s) s e (next (length r) e) (reverseAt (stretch (length r) s e .start) (stretch (length r) s e .len) r)
 unfolding stretch
 stretch-time d r even below s e hs he h =
     let n = length r in
@@ -83,7 +83,7 @@ stretch-time d r even below s e hs he h =
     let pos = lenOf-some n s e hs he in
     let oe = lenOf-on n s e hs he in
     let ob = lenOf-next n s e hs he h in
-    either-way (λ (w : Stretch). Reversed d n even r below (prev n s) s e (next n e) (reverseAt w.start w.len r)) (ltb n (2 * len))
+    either-way (λ (w : Stretch). Reversed d r (prev n s) s e (next n e) (reverseAt w.start w.len r)) (ltb n (2 * len))
     (complement-time d n even r below (prev n s) s e (next n e) len hs pos h oa oe ob)
     (reverseAt-time d n even r below (prev n s) s e (next n e) len hs pos h oa oe ob)
 

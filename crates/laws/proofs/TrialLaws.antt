@@ -26,7 +26,7 @@ use Rattle.laws.proofs.ReadLaws.{Reads, reads-length, reads-tally}
 use Rattle.laws.proofs.SpotLaws.{reads-seam}
 use Rattle.laws.proofs.TallyLaws.{tally-join}
 use Rattle.laws.proofs.TimeLaws.{end, end-join}
-use Rattle.laws.proofs.WayLaws.{CutAfter, CutAt, Start, cut-after, cut-at, in-part, out-part}
+use Rattle.laws.proofs.WayLaws.{CutAfter, CutAt, Start, after-it, at-it, cut-after, cut-at, in-part, out-part}
 
 -- list entries are below n and not the stop itself
 abbrev pub GoodList : ℕ → (Stop → List Stop) → Type 0
@@ -73,16 +73,16 @@ module _ (d : Legs) (t : Track) (pm : Perm t.round) (even : Even d (length t.rou
 
   -- ---- t4 before t3: t2 .. t4, t3 .. t1
   module _ (P : List Stop) (t3 : Stop) (Q : List Stop) (l : Reads fwd t.round ((t2 ∷ P) ++ (t3 ∷ Q))) (e1 : end t3 Q ≡ t1) (n3 : 3 ≤ length t.round) (h3 : d t2 t3 < g) (t4 : Stop) (e4 : end t2 P ≡ t4) where
-    good-two : Worth d t fwd t1 t2 g (record { case = two; t3 = t3; t4 = t4; t5 = t4; t6 = t4; partial = g - d t2 t3 + d t3 t4 })
+    worth-two : Worth d t fwd t1 t2 g (record { case = two; t3 = t3; t4 = t4; t5 = t4; t6 = t4; partial = g - d t2 t3 + d t3 t4 })
     unfolding Worth seq3
-    good-two = weighed (flip-lands d t pm even fwd n3 t2 P t3 Q l t1 t4 e1 e4) _ _ (omega arith)
+    worth-two = weighed (flip-lands d t pm even fwd n3 t2 P t3 Q l t1 t4 e1 e4) _ _ (omega arith)
 
     module _ (t5 : Stop) (i5 : 0 < tally t.round t5) (h5 : d t4 t5 < g - d t2 t3 + d t3 t4) (n4 : t5 ≢ t4) where
       flips-in : between fwd t.round t2 t5 t4 ≡ true → Worth d t fwd t1 t2 g (three d t2 g flips t3 t4 t5 (ahead fwd t.round t5))
       flips-in y = go (cut-after t2 P t5 (in-part t.round pm fwd t2 P (t3 ∷ Q) t5 l i5 (ap (between fwd t.round t2 t5) e4 ∙ y)) (λ e. n4 (e ∙ e4)))
         where
           go : CutAfter t2 P t5 → Worth d t fwd t1 t2 g (three d t2 g flips t3 t4 t5 (ahead fwd t.round t5))
-          go (CutAfter.parts A w B p q s) =
+          go (after-it A w B p q s) =
               let l′ : Reads fwd t.round ((t2 ∷ A) ++ ((w ∷ B) ++ (t3 ∷ Q))) = subst (Reads fwd t.round) (ap (λ x. (t2 ∷ x) ++ (t3 ∷ Q)) p ∙ append-assoc (t2 ∷ A) (w ∷ B) (t3 ∷ Q)) l in
               let j : ahead fwd t.round t5 ≡ w = ap (ahead fwd t.round) (sym q) ∙ reads-seam t.round pm fwd t2 A w (B ++ (t3 ∷ Q)) l′ .ahead-is in
               subst (λ v. Worth d t fwd t1 t2 g (three d t2 g flips t3 t4 t5 v)) (sym j)
@@ -92,7 +92,7 @@ module _ (d : Legs) (t : Track) (pm : Perm t.round) (even : Even d (length t.rou
       flips-out ne y = go (cut-at t3 Q t5 (out-part t.round pm fwd t2 P (t3 ∷ Q) t5 l i5 (ap (between fwd t.round t2 t5) e4 ∙ y)) ne)
         where
           go : CutAt t3 Q t5 → Worth d t fwd t1 t2 g (three d t2 g flips t3 t4 t5 (behind fwd t.round t5))
-          go (CutAt.parts A B p q) =
+          go (at-it A B p q) =
               let l′ : Reads fwd t.round ((t2 ∷ P) ++ ((t3 ∷ A) ++ (t5 ∷ B))) = subst (λ x. Reads fwd t.round ((t2 ∷ P) ++ (t3 ∷ x))) p l in
               let l″ : Reads fwd t.round ((t2 ∷ (P ++ (t3 ∷ A))) ++ (t5 ∷ B)) = subst (Reads fwd t.round) (sym (append-assoc (t2 ∷ P) (t3 ∷ A) (t5 ∷ B))) l′ in
               let j : behind fwd t.round t5 ≡ end t3 A = reads-seam t.round pm fwd t2 (P ++ (t3 ∷ A)) t5 B l″ .behind-is ∙ end-join t2 P t3 A in
@@ -108,7 +108,7 @@ module _ (d : Legs) (t : Track) (pm : Perm t.round) (even : Even d (length t.rou
     segment-in ne = go (cut-after t2 P t5 inside (λ e. ne (e ∙ e3)))
       where
         go : CutAfter t2 P t5 → Worth d t fwd t1 t2 g (three d t2 g segment t3 t4 t5 (ahead fwd t.round t5))
-        go (CutAfter.parts A w B p q s) =
+        go (after-it A w B p q s) =
             let l′ : Reads fwd t.round ((t2 ∷ A) ++ ((w ∷ B) ++ (t4 ∷ Q))) = subst (Reads fwd t.round) (ap (λ x. (t2 ∷ x) ++ (t4 ∷ Q)) p ∙ append-assoc (t2 ∷ A) (w ∷ B) (t4 ∷ Q)) l in
             let j : ahead fwd t.round t5 ≡ w = ap (ahead fwd t.round) (sym q) ∙ reads-seam t.round pm fwd t2 A w (B ++ (t4 ∷ Q)) l′ .ahead-is in
             subst (λ v. Worth d t fwd t1 t2 g (three d t2 g segment t3 t4 t5 v)) (sym j)
@@ -118,7 +118,7 @@ module _ (d : Legs) (t : Track) (pm : Perm t.round) (even : Even d (length t.rou
     inner-in ne = go (cut-at t2 P t5 inside ne)
       where
         go : CutAt t2 P t5 → Worth d t fwd t1 t2 g (three d t2 g inner t3 t4 t5 (behind fwd t.round t5))
-        go (CutAt.parts A B p q) =
+        go (at-it A B p q) =
             let l′ : Reads fwd t.round ((t2 ∷ A) ++ ((t5 ∷ B) ++ (t4 ∷ Q))) = subst (Reads fwd t.round) (ap (λ x. (t2 ∷ x) ++ (t4 ∷ Q)) p ∙ append-assoc (t2 ∷ A) (t5 ∷ B) (t4 ∷ Q)) l in
             let j : behind fwd t.round t5 ≡ end t2 A = reads-seam t.round pm fwd t2 A t5 (B ++ (t4 ∷ Q)) l′ .behind-is in
             let n3 : 3 ≤ length t.round = omega (arith, reads-length fwd t.round ((t2 ∷ A) ++ ((t5 ∷ B) ++ (t4 ∷ Q))) l′, length-append (t2 ∷ A) ((t5 ∷ B) ++ (t4 ∷ Q)), length-append (t5 ∷ B) (t4 ∷ Q)) in
@@ -158,7 +158,7 @@ module _ (d : Legs) (t : Track) (pm : Perm t.round) (even : Even d (length t.rou
         let n3 : 3 ≤ length t.round = long-enough fwd t.round t2 P t3 Q l (λ e. n1 (e ∙ e1)) in
         let i4 : 0 < tally t.round t4 = rw (← e4) (omega (arith, tally-end t2 P, tally-join (end t2 P) (t2 ∷ P) (t3 ∷ Q), reads-tally fwd t.round ((t2 ∷ P) ++ (t3 ∷ Q)) l (end t2 P))) in
         let e3 : ahead fwd t.round t4 ≡ t3 = ap (ahead fwd t.round) (sym e4) ∙ j.ahead-is in
-        more (good-two P t3 Q l e1 n3 h3 t4 e4)
+        more (worth-two P t3 Q l e1 n3 h3 t4 e4)
         (all-each {P = Fifth t3 t4} _ _
         (λ t5 f.
         let h5 : d t4 t5 < g - d t2 t3 + d t3 t4 = ltb-true (d t4 t5) (g - d t2 t3 + d t3 t4) (f .0 .1) in
@@ -207,7 +207,7 @@ module _ (d : Legs) (t : Track) (pm : Perm t.round) (even : Even d (length t.rou
         (all-keep _ _ (scans _ _ _ (listed t2 (pm.only t2 (omega (arith, tally-at (t2 ∷ st.rest) 0 (omega arith), reads-tally fwd t.round (t2 ∷ st.rest) st.reads t2))))))
       where
         go-before : (t3 : Stop) → d t2 t3 < g → t3 ≢ t1 → CutAt t2 st.rest t3 → All (Worth d t fwd t1 t2 g) (side d d list scan fwd t.round t1 t2 t3 (g - d t2 t3) false)
-        go-before t3 h3 n1 (CutAt.parts P Q p q) = side-before P t3 Q (subst (λ x. Reads fwd t.round (t2 ∷ x)) p st.reads) (q ∙ st.ends) n1 h3
+        go-before t3 h3 n1 (at-it P Q p q) = side-before P t3 Q (subst (λ x. Reads fwd t.round (t2 ∷ x)) p st.reads) (q ∙ st.ends) n1 h3
 
         go-behind : (t3 : Stop) → d t2 t3 < g → CutAfter t2 st.rest t3 → All (Worth d t fwd t1 t2 g) (side d d list scan fwd t.round t1 t2 t3 (g - d t2 t3) true)
-        go-behind t3 h3 (CutAfter.parts P w Q p q s) = side-behind P w Q (subst (λ x. Reads fwd t.round (t2 ∷ x)) p st.reads) (s ∙ st.ends) t3 q h3
+        go-behind t3 h3 (after-it P w Q p q s) = side-behind P w Q (subst (λ x. Reads fwd t.round (t2 ∷ x)) p st.reads) (s ∙ st.ends) t3 q h3

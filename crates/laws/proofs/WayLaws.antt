@@ -36,26 +36,26 @@ cut (y ∷ x) v h = elim (ℕ-discrete y v) [ yes e ↦ here [] x (ap (λ w. w �
 
 -- a stop of a list from a that is not a: two parts, the second from it
 pub data CutAt (a : Stop) (A : List Stop) (v : Stop) : Type 0 where
-  parts : (P Q : List Stop) → A ≡ P ++ (v ∷ Q) → end v Q ≡ end a A → CutAt a A v
+  at-it : (P Q : List Stop) → A ≡ P ++ (v ∷ Q) → end v Q ≡ end a A → CutAt a A v
 
 pub cut-at : (a : Stop) (A : List Stop) (v : Stop) → 0 < tally (a ∷ A) v → v ≢ a → CutAt a A v
 unfolding tally
 cut-at a A v h ne = go (cut A v (omega (arith, one-other (λ e. ne (sym e)))))
   where
     go : Cut A v → CutAt a A v
-    go (here P Q e) = parts P Q e (sym (ap (end a) e ∙ end-join a P v Q))
+    go (here P Q e) = at-it P Q e (sym (ap (end a) e ∙ end-join a P v Q))
 
 -- a stop of a list from a that is not its last: two parts, the first up to it
 pub data CutAfter (a : Stop) (A : List Stop) (v : Stop) : Type 0 where
-  parts : (P : List Stop) (w : Stop) (Q : List Stop) → A ≡ P ++ (w ∷ Q) → end a P ≡ v → end w Q ≡ end a A → CutAfter a A v
+  after-it : (P : List Stop) (w : Stop) (Q : List Stop) → A ≡ P ++ (w ∷ Q) → end a P ≡ v → end w Q ≡ end a A → CutAfter a A v
 
 pub cut-after : (a : Stop) (A : List Stop) (v : Stop) → 0 < tally (a ∷ A) v → v ≢ end a A → CutAfter a A v
 unfolding tally end
 cut-after a [] v h ne = absurd (omega (arith, one-other (λ e. ne (sym e))))
-cut-after a (b ∷ A) v h ne = elim (ℕ-discrete a v) [ yes e ↦ parts [] b A refl e refl | no q ↦ more (cut-after b A v (omega (arith, one-other q)) ne) ]
+cut-after a (b ∷ A) v h ne = elim (ℕ-discrete a v) [ yes e ↦ after-it [] b A refl e refl | no q ↦ more (cut-after b A v (omega (arith, one-other q)) ne) ]
   where
     more : CutAfter b A v → CutAfter a (b ∷ A) v
-    more (parts P w Q e f g) = parts (b ∷ P) w Q (ap (λ l. b ∷ l) e) f g
+    more (after-it P w Q e f g) = after-it (b ∷ P) w Q (ap (λ l. b ∷ l) e) f g
 
 -- ---- the reading that a step begins with
 pub record Start (o : Bool) (r : Round) (t1 t2 : Stop) : Type 0 where
