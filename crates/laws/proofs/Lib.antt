@@ -28,6 +28,7 @@ pub mod TrialStopLaws
 pub mod SinceLaws
 pub mod GainLaws
 pub mod StepLaws
+pub mod LoneLaws
 pub mod LkLaws
 pub mod Lk3Laws
 pub mod StepSinceLaws

@@ -2,7 +2,7 @@
 -- fit the journal; committed, an empty journal.
 use Prim.Native.Nat.{_-_, _<_, _≤_, suc, zero, ℕ}
 use mathlib.Core.Path.{_∙_, _≡_, refl, subst, sym}
-use mathlib.Core.Bool.{false}
+use mathlib.Core.Bool.{false, true}
 use mathlib.Core.List.{List, [], _∷_}
 use native.Mathlib.Nat.{le-refl}
 use native.Mathlib.Omega.{arith}
@@ -10,7 +10,8 @@ use lib.Dec.{ltb}
 use lib.ListN.{length}
 use borrow.Author.Tests.{ltb-false}
 use Rattle.rules.specs.Descend.{Manner, Ran, committed, descend, descending, journalled, kept, leave, short, stepFrom}
-use Rattle.rules.specs.Journal.{Track, cleared}
+use Rattle.rules.specs.Journal.{Track, cleared, inRange}
+use Rattle.rules.specs.Lists.{every}
 use Rattle.rules.specs.Plan.{Plan}
 use Rattle.rules.specs.Queue.{pushAll}
 use Rattle.rules.specs.State.{State}
@@ -21,7 +22,7 @@ use Rattle.laws.proofs.EveryLaws.{Below, all-right, none}
 use Rattle.laws.proofs.JournalLaws.{Past, past-past, past-refl}
 use Rattle.laws.proofs.PermLaws.{Perm}
 use Rattle.laws.proofs.QueueLaws.{pushAll-below}
-use Rattle.laws.proofs.SinceLaws.{Since, since-few, since-length, since-perm}
+use Rattle.laws.proofs.SinceLaws.{Since, since-few, since-length, since-perm, since-ranged}
 use Rattle.laws.proofs.StepSinceLaws.{Steps, steps-step}
 use Rattle.laws.proofs.TrialLaws.{Lists}
 
@@ -137,19 +138,20 @@ module _ (p : Plan) (kind n : ℕ) (lists : Lists p n) where
   record Kept (room : ℕ) (t t′ : Track) : Type 0 where
     back : Past t t′
     fits : length t.journal ≤ room → length t′.journal ≤ room
+    ranged : every (inRange n) t.journal ≡ true → every (inRange n) t′.journal ≡ true
 
   descending-kept : (room left : ℕ) (q : List Stop) (t : Track) (time : Time) → Stands n t q → Kept room t (descending p kind (kept room) left q t time .state .track)
   unfolding descending leave journalled short
-  descending-kept room zero [] t time h = record { back = past-refl t; fits = λ k. k }
-  descending-kept room (suc left) [] t time h = record { back = past-refl t; fits = λ k. k }
-  descending-kept room zero (v ∷ vs) t time h = record { back = past-refl t; fits = λ k. k }
+  descending-kept room zero [] t time h = record { back = past-refl t; fits = λ k. k; ranged = λ k. k }
+  descending-kept room (suc left) [] t time h = record { back = past-refl t; fits = λ k. k; ranged = λ k. k }
+  descending-kept room zero (v ∷ vs) t time h = record { back = past-refl t; fits = λ k. k; ranged = λ k. k }
   descending-kept room (suc left) (v ∷ vs) t time h =
       let f = stepFrom p kind v t in
       let s = stands-steps v vs t h in
       let g = descending-kept room left (pushAll vs f.touched) f.track (time - f.gain) (stands-taken v vs t h) in
-      either-if (λ (x : Ran). Kept room t x.state.track) (ltb (room - length t.journal) 100) (λ e. record { back = past-refl t; fits = λ k. k })
+      either-if (λ (x : Ran). Kept room t x.state.track) (ltb (room - length t.journal) 100) (λ e. record { back = past-refl t; fits = λ k. k; ranged = λ k. k })
       (λ e. let l : 100 ≤ room - length t.journal = ltb-false (room - length t.journal) 100 e in
-      record { back = past-past s.since.past g.back; fits = λ k. g.fits (omega (arith, since-few s.since)) })
+      record { back = past-past s.since.past g.back; fits = λ k. g.fits (omega (arith, since-few s.since)); ranged = λ k. g.ranged (since-ranged s.since n h.size k) })
 
   pub kept-past : (room budget : ℕ) (s : State) → Stands n s.track s.queue → Past s.track (descend p kind (kept room) budget s .state .track)
   unfolding descend
@@ -159,3 +161,8 @@ module _ (p : Plan) (kind n : ℕ) (lists : Lists p n) where
   pub kept-fits : (room budget : ℕ) (s : State) → Stands n s.track s.queue → length s.track.journal ≤ room → length (descend p kind (kept room) budget s .state .track .journal) ≤ room
   unfolding descend
   kept-fits room budget s h k = descending-kept room budget s.queue s.track s.time h .fits k
+
+  -- and a journal in range stays so
+  pub kept-ranged : (room budget : ℕ) (s : State) → Stands n s.track s.queue → every (inRange n) s.track.journal ≡ true → every (inRange n) (descend p kind (kept room) budget s .state .track .journal) ≡ true
+  unfolding descend
+  kept-ranged room budget s h k = descending-kept room budget s.queue s.track s.time h .ranged k

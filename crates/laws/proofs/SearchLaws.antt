@@ -5,10 +5,11 @@ use mathlib.Core.Path.{_≡_, ap, refl, subst, sym}
 use mathlib.Core.Logic.{_≢_}
 use mathlib.Core.Bool.{_&&_, false, true}
 use mathlib.Core.List.{[]}
+use native.Mathlib.Nat.{le-refl}
 use native.Mathlib.Omega.{arith}
 use lib.Dec.{eqb, leb, ltb}
 use lib.ListN.{length}
-use borrow.Author.Tests.{eqb-false, eqb-true, le-ltb}
+use borrow.Author.Tests.{eqb-false, eqb-true, le-ltb, ltb-true}
 use Rattle.rules.specs.Descend.{committed, descend, kept, short}
 use Rattle.rules.specs.Draws.{drawn, moved}
 use Rattle.rules.specs.Journal.{Track, cleared}
@@ -168,3 +169,19 @@ module _ (p : Plan) (o : Settings) (n : ℕ) (pos : 1 ≤ n) (lists : Lists p n)
       (λ e. either-if (λ (v : Walk). Walks n v × Ended o (stopAfter p.n) v) (o.stop && leb (stopAfter p.n) w.fails)
       (λ y. (g, record { why = λ ne. y }))
       (λ y. let t = turn-took slack (w.left - 1) w (some-left w.left e) g in fuel-suffices slack fuel (turned p o slack w) (omega (arith, t.less)) t.walks))
+
+-- ---- the best is never given up for a worse one
+module _ (p : Plan) (o : Settings) where
+  turned-best : (slack : Time) (w : Walk) → turned p o slack w .bestTime ≤ w.bestTime
+  unfolding turned kickedOnce restarted
+  turned-best slack w = either-way (λ (v : Walk). v.bestTime ≤ w.bestTime) (ltb w.walkFails (restartAfter p.n)) (lesser _ w.bestTime) (lesser _ w.bestTime)
+    where
+      lesser : (a b : Time) → (if ltb a b then a else b) ≤ b
+      lesser a b = either-if (λ c. c ≤ b) (ltb a b) (λ y. let h : a < b = ltb-true a b y in omega arith) (λ y. omega arith)
+
+  pub turns-best : (slack : Time) (fuel : ℕ) (w : Walk) → turns p o slack fuel w .bestTime ≤ w.bestTime
+  unfolding turns
+  turns-best slack zero w = le-refl w.bestTime
+  turns-best slack (suc fuel) w =
+      either-way (λ (v : Walk). v.bestTime ≤ w.bestTime) (eqb w.left 0) (le-refl w.bestTime)
+      (either-way (λ (v : Walk). v.bestTime ≤ w.bestTime) (o.stop && leb (stopAfter p.n) w.fails) (le-refl w.bestTime) (omega (arith, turned-best slack w, turns-best slack fuel (turned p o slack w))))
