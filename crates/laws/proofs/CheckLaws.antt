@@ -93,6 +93,7 @@ goodJournal-ranged n ws held e =
     let g = and-true (leb (5 * held) (length ws)) (every f (rising held 0)) e in
     entries-ranged n ws held (λ i h. and-true (leb (at ws (5 * i)) 2) (inRange n (entryAt ws i)) (every-rising f held 0 (g .1) i (omega arith) (omega arith)) .1)
 
+-- nor more entries held than the room takes
 pub goodJournal-fits : (n : ℕ) (ws : List ℕ) (held : ℕ) → goodJournal n ws held ≡ true → 5 * held ≤ length ws
 unfolding goodJournal
 goodJournal-fits n ws held e = leb-true (5 * held) (length ws) (and-true (leb (5 * held) (length ws)) _ e .0)

@@ -43,5 +43,6 @@ moved-is x h =
     let z = second y in
     rw (xor64-is x (x * 2 ^ 13 % 2 ^ 64) h, xor64-is y (y / 2 ^ 7) (first-below x h), xor64-is z (z * 2 ^ 17 % 2 ^ 64) (second-below y (first-below x h))) refl
 
+-- 64 bits again
 pub moved-below : (x : ℕ) → x < 2 ^ 64 → moved x < 2 ^ 64
 moved-below x h = rw (moved-is x h) (third-below (second (first x)) (second-below (first x) (first-below x h)))

@@ -21,6 +21,7 @@ Even d n = (a b : Stop) → a < n → b < n → d a b ≡ d b a
 abbrev pub Reversed : Legs → Round → Place → Place → Place → Place → Round → Type 0
 Reversed d r a s e b after = recount d after + (d (at r a) (at r s) + d (at r e) (at r b)) ≡ recount d r + (d (at r a) (at r e) + d (at r s) (at r b))
 
+-- the first and the last stop of a list of stops below n
 pub below-head : (n : ℕ) (a : Stop) (A : List Stop) → Below n (a ∷ A) → a < n
 below-head n a A (more h b) = h
 

@@ -9,41 +9,50 @@ use Rattle.rules.specs.Lists.{at, each, every, keep, keepWhile}
 use Rattle.rules.specs.Words.{Stop}
 use Rattle.laws.proofs.ChoiceLaws.{both-true, either-if}
 
+-- every element has a property
 pub data All {A : Type 0} (P : A → Type 0) : List A → Type 0 where
   none : All P []
   more : {x : A} {xs : List A} → P x → All P xs → All P (x ∷ xs)
 
+-- a weaker property
 pub all-map : {A : Type 0} {P Q : A → Type 0} (xs : List A) → ((x : A) → P x → Q x) → All P xs → All Q xs
 all-map [] f none = none
 all-map (x ∷ xs) f (more p a) = more (f x p) (all-map xs f a)
 
+-- of two lists
 pub all-join : {A : Type 0} {P : A → Type 0} (xs ys : List A) → All P xs → All P ys → All P (xs ++ ys)
 all-join [] ys none b = b
 all-join (x ∷ xs) ys (more p a) b = more p (all-join xs ys a b)
 
+-- of the first of two
 pub all-left : {A : Type 0} {P : A → Type 0} (xs ys : List A) → All P (xs ++ ys) → All P xs
 all-left [] ys a = none
 all-left (x ∷ xs) ys (more p a) = more p (all-left xs ys a)
 
+-- of the second of two
 pub all-right : {A : Type 0} {P : A → Type 0} (xs ys : List A) → All P (xs ++ ys) → All P ys
 all-right [] ys a = a
 all-right (x ∷ xs) ys (more p a) = all-right xs ys a
 
+-- of the first elements
 pub all-take : {A : Type 0} {P : A → Type 0} (k : ℕ) (xs : List A) → All P xs → All P (take k xs)
 all-take zero xs a = none
 all-take (suc k) [] none = none
 all-take (suc k) (x ∷ xs) (more p a) = more p (all-take k xs a)
 
+-- of those behind them
 pub all-drop : {A : Type 0} {P : A → Type 0} (k : ℕ) (xs : List A) → All P xs → All P (drop k xs)
 all-drop zero xs a = a
 all-drop (suc k) [] none = none
 all-drop (suc k) (x ∷ xs) (more p a) = all-drop k xs a
 
+-- of what each element gives
 pub all-each : {A B : Type 0} {P : A → Type 0} {Q : B → Type 0} (f : A → List B) (xs : List A) → ((x : A) → P x → All Q (f x)) → All P xs → All Q (each f xs)
 unfolding each
 all-each f [] h none = none
 all-each f (x ∷ xs) h (more p a) = all-join (f x) (each f xs) (h x p) (all-each f xs h a)
 
+-- of the images
 pub all-image : {A B : Type 0} {P : A → Type 0} {Q : B → Type 0} (f : A → B) (xs : List A) → ((x : A) → P x → Q (f x)) → All P xs → All Q (map f xs)
 all-image f [] h none = none
 all-image f (x ∷ xs) h (more p a) = more (h x p) (all-image f xs h a)
@@ -74,6 +83,7 @@ all-every p (x ∷ l) (more h a) = rw (h, every) (all-every p l a)
 abbrev pub Below : ℕ → List Stop → Type 0
 Below n l = All (λ v. v < n) l
 
+-- so is the stop of each place
 pub below-at : (n : ℕ) (l : List Stop) → Below n l → (i : ℕ) → i < length l → at l i < n
 below-at n [] b i h = absurd (omega arith)
 below-at n (x ∷ l) (more k b) zero h = k

@@ -39,6 +39,7 @@ falls-time d t f h = go f.gain refl
     go zero e = omega (arith, ap (λ u. recount d (Track.round u)) (h.stays e))
     go (suc m) e = h.gains (omega arith)
 
+-- the first trial that closes with a gain
 pub closing-falls : (d : Legs) (t : Track) (fwd : Bool) (t1 t2 g base : ℕ) → recount d t.round + g ≡ base + d t1 t2
     → (xs : List Trial) → All (Worth d t fwd t1 t2 g) xs → Falls d t base (firstClosing d fwd t1 t2 t xs)
 unfolding firstClosing Worth
@@ -49,6 +50,7 @@ closing-falls d t fwd t1 t2 g base b (x ∷ xs) (more h a) =
     record { gains = λ q. omega (arith, h.legs); stays = λ e. absurd (omega arith); same = h.same; size = h.size })
     (λ y. closing-falls d t fwd t1 t2 g base b xs a)
 
+-- more stops queued change no time
 pub touching-falls : (d : Legs) (t : Track) (base : ℕ) (vs : List Stop) (f : Found) → Falls d t base f → Falls d t base (touching vs f)
 unfolding touching
 touching-falls d t base vs f h = go f.gain refl
@@ -60,6 +62,7 @@ touching-falls d t base vs f h = go f.gain refl
     go zero e = h
     go (suc m) e = record { gains = λ q. omega (arith, h.gains (omega arith)); stays = λ q. absurd (omega arith); same = h.same; size = h.size }
 
+-- the first of two that gains
 pub orElse-falls : (d : Legs) (t : Track) (f : Found) (other : Track → Found) → Falls d t (recount d t.round) f → Falls d t (recount d t.round) (other t) → Falls d t (recount d t.round) (orElse f other)
 unfolding orElse
 orElse-falls d t f other h k = go f.gain refl
@@ -77,6 +80,7 @@ pub record Fit (p : Plan) (n : ℕ) : Type 0 where
   pub lists : Lists p n
 
 module _ (p : Plan) (t : Track) (pm : Perm t.round) (fit : Fit p (length t.round)) (t1 : Stop) (h1 : t1 < length t.round) where
+  -- `improve` in a direction
   pub improve-falls : (fwd : Bool) → Falls (legOf p) t (recount (legOf p) t.round) (improve p fwd t1 t)
   unfolding improve
   improve-falls fwd =
@@ -86,6 +90,7 @@ module _ (p : Plan) (t : Track) (pm : Perm t.round) (fit : Fit p (length t.round
       (closing-falls (legOf p) t fwd t1 t2 (legOf p t1 t2) (recount (legOf p) r) refl _
       (trials-worth (legOf p) t pm fit.even fwd t1 t2 (legOf p t1 t2) (nearOf p) fit.lists.near keepWhile (λ P. all-while) (start r pm fwd t1 (pm.has t1 h1))))
 
+  -- forward, then backward
   pub both-falls : Falls (legOf p) t (recount (legOf p) t.round) (improveBoth p t1 t)
   unfolding improveBoth
   both-falls = orElse-falls (legOf p) t (improve p true t1 t) (improve p false t1) (improve-falls true) (improve-falls false)

@@ -13,6 +13,7 @@ use Rattle.rules.specs.Words.{Round}
 use Rattle.laws.proofs.ChoiceLaws.{and-true, both-true}
 use Rattle.laws.proofs.RewriteLaws.{reverseAt-length, reverseAt-undone, rotateAt-length, rotateAt-undone, swapAt-length, swapAt-undone}
 
+-- an entry carried out or taken back keeps the length, and so do all
 pub carryOut-length : (e : Entry) (r : Round) → length (carryOut e r) ≡ length r
 unfolding carryOut
 carryOut-length (reversal s l) r = reverseAt-length s l r
@@ -49,15 +50,18 @@ pub record Past (t t′ : Track) : Type 0 where
   pub grown : t′ .journal ≡ newer ++ t .journal
   pub back : undoAll newer (t′ .round) ≡ t .round
 
+-- entries taken back, and those before them
 pub undo-join : (xs ys : List Entry) (r : Round) → undoAll (xs ++ ys) r ≡ undoAll ys (undoAll xs r)
 unfolding undoAll
 undo-join [] ys r = refl
 undo-join (e ∷ es) ys r = undo-join es ys (takeBack e r)
 
+-- a track leads back to itself
 unfoldable pub past-refl : (t : Track) → Past t t
 unfolding undoAll
 past-refl t = record { newer = []; grown = refl; back = refl }
 
+-- one way back after another
 unfoldable pub past-past : {a b c : Track} → Past a b → Past b c → Past a c
 past-past {a} {b} {c} p q = record {
   newer = q .newer ++ p .newer;
@@ -79,6 +83,7 @@ unfoldable pub doingAll : List Entry → Track → Track
 doingAll [] t = t
 doingAll (e ∷ es) t = doing e (doingAll es t)
 
+-- "any entries in range since a mark lead back"
 pub past-doingAll : (es : List Entry) (t : Track) → every (inRange (length (t .round))) es ≡ true → Past t (doingAll es t)
 unfolding doingAll every
 past-doingAll [] t h = past-refl t

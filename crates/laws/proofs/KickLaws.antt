@@ -38,6 +38,7 @@ module _ (d : Legs) (t : Track) (pm : Perm t.round) where
   stop : (i : Place) → i < length t.round → at t.round i < length t.round
   stop = perm-at t.round pm
 
+  -- p X Y Z q to p Z Y X q
   pub segment-kicks : (a b c : ℕ) (start : Place) → start < length t.round → 0 < a → 0 < c → a + b + c < length t.round → Kicks d t 1 (segmentKick d a b c start t)
   unfolding segmentKick
   segment-kicks a b c start hs ha hc h = record { counted = segment-counted d t a b c start hs ha hc h; since = rotated start a b c hs (omega arith); stops = low; some = omega arith }
@@ -48,6 +49,7 @@ module _ (d : Legs) (t : Track) (pm : Perm t.round) where
       low : Below (length t.round) (segmentKick d a b c start t .touched)
       low = more (w _) (more (w _) (more (w _) (more (w _) (more (w _) (more (w _) (either-way (Below (length t.round)) (eqb b 0) none (more (w _) (more (w _) none))))))))
 
+  -- A B C D to A D C B
   pub bridge-kicks : (la lb lc : ℕ) → 0 < la → 0 < lb → 0 < lc → la + lb + lc < length t.round → Kicks d t 1 (bridgeKick d la lb lc t)
   unfolding bridgeKick
   bridge-kicks la lb lc ha hb hc h =

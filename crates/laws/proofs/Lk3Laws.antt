@@ -76,6 +76,7 @@ module _ (p : Plan) (t : Track) (pm : Perm t.round) (fit : Fit p (length t.round
       touching-falls (legOf p) t (recount (legOf p) t.round) (t1 ∷ t2 ∷ []) _
       (level3-falls p t pm fit long t1 (recount (legOf p) t.round) 50 (begin t t1 t2) t2 (legOf p t1 t2) (begun p t pm t1 h1 fwd))
 
+  -- both sides of t1, and below 5 stops nothing
   pub lk3From-falls : Falls (legOf p) t (recount (legOf p) t.round) (lk3From p t1 t)
   unfolding lk3From
   lk3From-falls =

@@ -108,6 +108,7 @@ module _ (p : Plan) (t : Track) (pm : Perm t.round) (fit : Fit p (length t.round
       (λ e. falls-nothing (legOf p) t (recount (legOf p) t.round))
       (λ m e. record { gains = λ q. omega (arith, g.gains (omega arith)); stays = λ q. absurd (omega arith); same = g.same; size = g.size })
 
+  -- both sides of t1, and below 5 stops nothing
   pub lkFrom-falls : Falls (legOf p) t (recount (legOf p) t.round) (lkFrom p t1 t)
   unfolding lkFrom
   lkFrom-falls =

@@ -35,6 +35,7 @@ pub best-one : (x : Trial) (xs : List Trial) → best 1 [] (x ∷ xs) ≡ bestOf
 unfolding best insert
 best-one x xs = best-after x xs
 
+-- from level 1 on
 pub breadth-one : (level : ℕ) → 1 ≤ level → breadth level ≡ 1
 unfolding breadth
 breadth-one zero h = absurd (omega arith)

@@ -33,6 +33,7 @@ perm-kept r after p s z = record {
   only = λ v h. omega (arith, p.only v (omega (arith, s v)));
 }
 
+-- a list whose stops are all below n
 pub tally-below : (n : ℕ) (x : List Stop) → ((v : Stop) → 0 < tally x v → v < n) → Below n x
 unfolding tally
 tally-below n [] h = none
@@ -50,6 +51,7 @@ perm-below r p = tally-below (length r) r p.only
 pub perm-place : (r : Round) → Perm r → (i : Place) → i < length r → place r (at r i) ≡ i
 perm-place r p i h = place-at r i h (p.once (at r i))
 
+-- the stop of a place is below n
 pub perm-at : (r : Round) → Perm r → (i : Place) → i < length r → at r i < length r
 perm-at r p i h = p.only (at r i) (tally-at r i h)
 
@@ -143,6 +145,7 @@ once-few n l b u = omega (arith, counted n l, total-few n (tally l) u, below-ove
 
 -- ---- number 7
 module _ (n : ℕ) (r : Round) (e : isRound n r ≡ true) where
+  -- the check gives the length
   pub round-length : length r ≡ n
   unfolding isRound
   round-length = eqb-true (length r) n (and-true (eqb (length r) n) (every (λ v. eqb (tally r v) 1) (rising n 0)) e .0)

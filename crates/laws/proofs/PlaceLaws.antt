@@ -33,6 +33,7 @@ pub prev-inner : (n : ℕ) (i : Place) → i ≢ 0 → prev n i ≡ i - 1
 unfolding prev
 prev-inner n i e = rw (ne-eqb i 0 e)
 
+-- both are places of the ring
 pub next-below : (n : ℕ) (p : Place) → p < n → next n p < n
 next-below n p h = elim (ℕ-discrete (p + 1) n) [ yes q ↦ omega (arith, next-last n p q) | no q ↦ omega (arith, next-inner n p q) ]
 
@@ -55,6 +56,7 @@ on-before n zero p hk (high l e) = absurd (omega arith)
 on-before n (suc k) p hk (low l e) = absurd (omega arith)
 on-before n (suc k) p hk (high l e) = let q : suc k ≢ 0 = omega arith in omega (arith, prev-inner n (suc k) q)
 
+-- no step
 pub on-zero : (n : ℕ) (k p : Place) → k < n → On n k 0 p → p ≡ k
 on-zero n k p hk (low l e) = omega arith
 on-zero n k p hk (high l e) = absurd (omega arith)

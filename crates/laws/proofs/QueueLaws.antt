@@ -63,6 +63,7 @@ pub push-old : (q : List Stop) (v : Stop) → has q v ≡ true → push q v ≡ 
 unfolding push
 push-old q v e = rw e
 
+-- who does not wait yet waits last
 pub push-new : (q : List Stop) (v : Stop) → has q v ≡ false → push q v ≡ q ++ (v ∷ [])
 unfolding push
 push-new q v e = rw e
@@ -122,6 +123,7 @@ has-last [] v u = go (eqb v u)
     go false = refl
 has-last (x ∷ q) v u = ap (λ (b : Bool). if eqb x u then true else b) (has-last q v u) ∙ if-or (eqb x u) (has q u) (eqb v u)
 
+-- one stop more waits
 pub push-has : (q : List Stop) (v u : Stop) → has (push q v) u ≡ (has q u || eqb v u)
 unfolding push
 push-has q v u = either-if (λ (l : List Stop). has l u ≡ (has q u || eqb v u)) (has q v) (λ e. old e (eqb v u) refl) (λ e. has-last q v u)
@@ -135,6 +137,7 @@ unfolding pushAll has
 pushAll-has q [] v = sym (or-false (has q v))
 pushAll-has q (x ∷ vs) v = pushAll-has (push q x) vs v ∙ ap (λ (b : Bool). b || has vs v) (push-has q x v) ∙ or-if (has q v) (eqb x v) (has vs v)
 
+-- one list pushed after another
 pub pushAll-join : (q xs ys : List Stop) → pushAll q (xs ++ ys) ≡ pushAll (pushAll q xs) ys
 unfolding pushAll
 pushAll-join q [] ys = refl

@@ -33,6 +33,7 @@ front-twice len x h =
     let e : length (reverse (take len x)) ≡ len = length-reverse (take len x) ∙ length-take-le len x h in
     rw (take-at (reverse (take len x)) (drop len x) len e, drop-at (reverse (take len x)) (drop len x) len e, reverse-reverse) (take-append-drop len x)
 
+-- it keeps the length
 pub reverseAt-length : (s : Place) (len : ℕ) (r : Round) → length (reverseAt s len r) ≡ length r
 unfolding reverseAt from
 reverseAt-length s len r = turn-length (length r - s) (reverseFront len (turn s r)) ∙ front-length len (turn s r) ∙ turn-length s r
@@ -71,6 +72,7 @@ parts a b c x =
     let e3 : drop (a + b + c) x ≡ drop c (drop b (drop a x)) = sym (drop-drop c (a + b) x) ∙ ap (drop c) e2 in
     rw (e3, e2, take-append-drop c (drop b (drop a x)), take-append-drop b (drop a x)) (take-append-drop a x)
 
+-- the first three have their lengths
 pub record Lengths (a b c : ℕ) (x : List Stop) : Type 0 where
   pub first : length (take a x) ≡ a
   pub second : length (take b (drop a x)) ≡ b
@@ -93,6 +95,7 @@ exchange-undone a b c x h =
     let l = lengths a b c x h in
     exchange-parts (take c (drop (a + b) x)) (take b (drop a x)) (take a x) (drop (a + b + c) x) c b a l.third l.second l.first ∙ parts a b c x
 
+-- it keeps the length
 pub rotateAt-length : (s : Place) (a b c : ℕ) (r : Round) → length (rotateAt s a b c r) ≡ length r
 unfolding rotateAt from
 rotateAt-length s a b c r = turn-length (length r - s) (exchangeFront a b c (turn s r)) ∙ exchange-length a b c (turn s r) ∙ turn-length s r

@@ -20,11 +20,13 @@ every-rising p (suc count) a e v h k =
     let g = both-true (p a) (every p (rising count (a + 1))) e in
     elim (ℕ-discrete a v) [ yes q ↦ subst (λ w. p w ≡ true) q (g .0) | no q ↦ every-rising p count (a + 1) (g .1) v (omega arith) (omega arith) ]
 
+-- and the other way
 pub rising-every : (p : ℕ → Bool) (count a : ℕ) → ((v : ℕ) → a ≤ v → v < a + count → p v ≡ true) → every p (rising count a) ≡ true
 unfolding every rising
 rising-every p zero a h = refl
 rising-every p (suc count) a h = rw (h a (omega arith) (omega arith), every) (rising-every p count (a + 1) (λ v l k. h v (omega arith) (omega arith)))
 
+-- there are so many
 pub rising-length : (count a : ℕ) → length (rising count a) ≡ count
 unfolding rising
 rising-length zero a = refl

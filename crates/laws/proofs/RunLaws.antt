@@ -94,6 +94,7 @@ pub record Stands (n : ℕ) (t : Track) (q : List Stop) : Type 0 where
 pub stands-since : {n k : ℕ} {t t′ : Track} (q vs : List Stop) → Stands n t q → Since t k t′ → Below n vs → Stands n t′ (pushAll q vs)
 stands-since {n} q vs h s b = record { perm = since-perm s h.perm; size = since-length s ∙ h.size; queued = pushAll-below n q vs h.queued b }
 
+-- emptying the journal leaves it so
 pub stands-journalled : (m : Manner) (n : ℕ) (t : Track) (q : List Stop) → Stands n t q → Stands n (journalled m t) q
 unfolding journalled cleared
 stands-journalled (kept room) n t q h = h
@@ -153,6 +154,7 @@ module _ (p : Plan) (kind n : ℕ) (lists : Lists p n) where
       (λ e. let l : 100 ≤ room - length t.journal = ltb-false (room - length t.journal) 100 e in
       record { back = past-past s.since.past g.back; fits = λ k. g.fits (omega (arith, since-few s.since)); ranged = λ k. g.ranged (since-ranged s.since n h.size k) })
 
+  -- the way back
   pub kept-past : (room budget : ℕ) (s : State) → Stands n s.track s.queue → Past s.track (descend p kind (kept room) budget s .state .track)
   unfolding descend
   kept-past room budget s h = descending-kept room budget s.queue s.track s.time h .back

@@ -103,6 +103,7 @@ module _ (p : Plan) (o : Settings) (n : ℕ) (pos : 1 ≤ n) (fit : Fit p n) (ro
       let t = turn-took p o n pos fit.lists room slack (w.left - 1) w l g.walks in
       turns-timed slack fuel (turned p o slack w) (omega (arith, t.less)) (turn-timed slack (w.left - 1) w l g)))
 
+  -- a search from any round of n stops
   pub searchFrom-answers : (r : Round) → isRound n r ≡ true → Answers p n o.budget (searchFrom p o r)
   unfolding searchFrom
   searchFrom-answers r e =

@@ -18,6 +18,7 @@ use Rattle.laws.proofs.TurnLaws.{turn-length}
 part-last : (P : List Stop) (a : Stop) (A R : List Stop) (k : ℕ) → length P + length A ≡ k → at (P ++ ((a ∷ A) ++ R)) k ≡ end a A
 part-last P a A R k e = ap (at (P ++ ((a ∷ A) ++ R))) (sym e) ∙ getD-append-add P ((a ∷ A) ++ R) (length A) 0 ∙ List·getD-append (a ∷ A) R 0 (length A) (omega arith) ∙ sym (end-at a A)
 
+-- a list with a first stop
 pub data Cons (l : List Stop) : Type 0 where
   cons : (h : Stop) (t : List Stop) → l ≡ h ∷ t → Cons l
 

@@ -23,11 +23,13 @@ use Rattle.laws.proofs.StretchLaws.{stretch-fits}
 use Rattle.laws.proofs.TallyLaws.{tally-undoAll}
 use Rattle.laws.proofs.TrialStopLaws.{Stops}
 
+-- the newer entries, in range, and how many at most
 pub record Since (t : Track) (most : ℕ) (t′ : Track) : Type 0 where
   pub past : Past t t′
   pub ranged : every (inRange (length (t .round))) (past .newer) ≡ true
   pub few : length (past .newer) ≤ most
 
+-- none; one in range; some after others; a greater bound
 pub since-refl : (most : ℕ) (t : Track) → Since t most t
 unfolding past-refl every
 since-refl most t = record { past = past-refl t; ranged = refl; few = omega arith }
@@ -51,6 +53,7 @@ pub since-more : {t t′ : Track} (k most : ℕ) → Since t k t′ → k ≤ mo
 since-more k most s h = record { past = s.past; ranged = s.ranged; few = omega (arith, s.few) }
 
 module _ {t t′ : Track} {k : ℕ} (s : Since t k t′) where
+  -- the same length
   pub since-length : length (t′ .round) ≡ length (t .round)
   since-length = past-length s.past
 
@@ -83,6 +86,7 @@ module _ (t : Track) (pm : Perm t.round) where
   spot : (v : Stop) → v < length t.round → place t.round v < length t.round
   spot v h = place-below t.round v (pm.has v h)
 
+  -- `flip` writes one entry at most
   pub since-flip : (t1 t2 t3 : Stop) → t1 < length t.round → t2 < length t.round → t3 < length t.round → Since t 1 (flip t1 t2 t3 t)
   unfolding flip
   since-flip t1 t2 t3 h1 h2 h3 =
@@ -109,6 +113,7 @@ module _ (t : Track) (pm : Perm t.round) where
       → Since t 1 (exchange (min p (min q s)) (p + q + s - min p (min q s) - max p (max q s)) (max p (max q s)) t)
   cuts p q s hp hq hs = since-exchange (min p (min q s)) (p + q + s - min p (min q s) - max p (max q s)) (max p (max q s)) (omega arith) (omega arith) (omega arith)
 
+  -- `or_move` writes one
   pub since-orMove : (o : Bool) (x1 y1 x2 y2 x3 y3 : Stop) → Below (length t.round) (x1 ∷ y1 ∷ x2 ∷ y2 ∷ x3 ∷ y3 ∷ []) → Since t 1 (orMove o x1 y1 x2 y2 x3 y3 t)
   unfolding orMove
   since-orMove true x1 y1 x2 y2 x3 y3 (more a1 (more b1 (more a2 (more b2 (more a3 (more b3 none)))))) = cuts (place t.round y1) (place t.round y2) (place t.round y3) (spot y1 b1) (spot y2 b2) (spot y3 b3)

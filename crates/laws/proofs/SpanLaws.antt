@@ -45,6 +45,7 @@ nth-in (suc i) [] s ss vs e h = absurd (omega arith)
 nth-in (suc i) (b ∷ bs) s ss [] e h = absurd h
 nth-in (suc i) (b ∷ bs) s ss (v ∷ vs) e h = nth-in i bs s ss vs (omega arith) (h .1)
 
+-- the draws of a shuffle
 pub shuffle-in : (m : ℕ) (vs : List ℕ) → InSpans (shuffleSpans m) vs → Shuffles vs × (length vs ≡ m - 1)
 unfolding InSpans shuffleSpans
 shuffle-in zero [] h = (Shuffles.none, refl)

@@ -78,6 +78,7 @@ module _ (r : Round) (u : Perm r) where
   unfolding ahead behind
   joined-back j = record { ahead-is = j.behind-is; behind-is = j.ahead-is }
 
+  -- in either direction
   pub reads-join : (o : Bool) (a : Stop) (A : List Stop) → Reads o r (a ∷ A) → Joined o r (end a A) a
   unfolding Reads
   reads-join true a A t = turned-join a A t

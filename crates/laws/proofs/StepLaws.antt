@@ -47,6 +47,7 @@ pub record Going (d : Legs) (t0 : Track) (t1 : Stop) (base : Time) (s : Step) (t
 
 module _ (p : Plan) (t0 : Track) (pm : Perm t0.round) (fit : Fit p (length t0.round)) (t1 : Stop) (base : Time) where
   module _ {s : Step} {t2 : Stop} {g : Time} (h : Going (legOf p) t0 t1 base s t2 g) where
+    -- its round holds each stop once, the plan fits it, t2 is a stop of it
     pub going-perm : Perm s.track.round
     going-perm = perm-kept t0.round s.track.round pm h.same h.size
 

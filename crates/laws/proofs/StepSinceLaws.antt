@@ -58,6 +58,7 @@ steps-closing add fwd t1 t2 t pm h1 h2 (x ∷ xs) (more s a) =
 
 -- ---- `improve`
 module _ (p : Plan) (t : Track) (pm : Perm t.round) (near : GoodList (length t.round) (nearOf p)) (t1 : Stop) (h1 : t1 < length t.round) where
+  -- two entries at most
   pub steps-improve : (fwd : Bool) → Steps t 2 (improve p fwd t1 t)
   unfolding improve
   steps-improve fwd =
@@ -66,6 +67,7 @@ module _ (p : Plan) (t : Track) (pm : Perm t.round) (near : GoodList (length t.r
       let h2 = ahead-below r pm fwd t1 h1 in
       steps-touching (t1 ∷ t2 ∷ []) _ (more h1 (more h2 none)) (steps-closing (legOf p) fwd t1 t2 t pm h1 h2 _ (trials-stops (legOf p) (legOf p) (nearOf p) keepWhile (λ P. all-while) fwd r pm near t1 t2 (legOf p t1 t2) h2))
 
+  -- forward, then backward
   pub steps-both : Steps t 2 (improveBoth p t1 t)
   unfolding improveBoth
   steps-both = steps-orElse (improve p true t1 t) (improve p false t1) (steps-improve true) (steps-improve false)
@@ -138,6 +140,7 @@ module _ (p : Plan) (t : Track) (pm : Perm t.round) (near : GoodList (length t.r
       by-gain (Steps t 25) b.gain {x = nothing t} {y = λ g. record { gain = suc g; track = b.step.track; touched = t1 ∷ t2 ∷ b.step.stops }} (λ e. steps-nothing t 25)
       (λ g e. record { since = w.since; stays = λ q. absurd (omega arith); stops = more h1 (more h2 w.stops) })
 
+  -- 25 levels, an entry each
   pub steps-lkFrom : Steps t 25 (lkFrom p t1 t)
   unfolding lkFrom
   steps-lkFrom = either-way (Steps t 25) (ltb (length t.round) 5) (steps-nothing t 25) (steps-orElse (lkSide p t1 true t) (lkSide p t1 false) (steps-lkSide true) (steps-lkSide false))
@@ -199,6 +202,7 @@ module _ (p : Plan) (t : Track) (pm : Perm t.round) (alpha : GoodList (length t.
       let c = level3-level 50 0 (omega arith) (begin t t1 t2) t2 (legOf p t1 t2) (begun t t1 t2 0) h2 in
       steps-touching (t1 ∷ t2 ∷ []) _ (more h1 (more h2 none)) (record { since = c.within; stays = c.stays; stops = c.stops })
 
+  -- 50 levels, two entries each
   pub steps-lk3From : Steps t 100 (lk3From p t1 t)
   unfolding lk3From
   steps-lk3From = either-way (Steps t 100) (ltb (length t.round) 5) (steps-nothing t 100) (steps-orElse (lk3Side p t1 true t) (lk3Side p t1 false) (steps-lk3Side true) (steps-lk3Side false))
@@ -208,6 +212,7 @@ module _ (p : Plan) (t : Track) (pm : Perm t.round) (lists : Lists p (length t.r
   few : Steps t 100 (improveBoth p v t)
   few = steps-more 2 100 _ (steps-both p t pm lists.near v h) (omega arith)
 
+  -- 100 in all
   pub steps-step : (kind : ℕ) → Steps t 100 (stepFrom p kind v t)
   unfolding stepFrom
   steps-step zero = steps-orElse (lkFrom p v t) (improveBoth p v) (steps-more 25 100 _ (steps-lkFrom p t pm lists.near v h) (omega arith)) few

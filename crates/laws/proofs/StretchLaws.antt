@@ -25,10 +25,12 @@ lenOf-on n s e hs he =
     (λ y. let h : s ≤ e = leb-true s e y in low (omega arith) (omega arith))
     (λ y. let h : e < s = leb-false s e y in high (omega arith) (omega arith))
 
+-- one at least
 pub lenOf-some : (n : ℕ) (s e : Place) → s < n → e < n → 0 < lenOf n s e
 unfolding lenOf
 lenOf-some n s e hs he = either-way (λ len. 0 < len) (leb s e) (omega arith) (omega arith)
 
+-- n at most
 pub lenOf-few : (n : ℕ) (s e : Place) → s < n → e < n → lenOf n s e ≤ n
 unfolding lenOf
 lenOf-few n s e hs he =
@@ -36,6 +38,7 @@ lenOf-few n s e hs he =
     (λ y. let h : s ≤ e = leb-true s e y in omega arith)
     (λ y. let h : e < s = leb-false s e y in omega arith)
 
+-- where they are not all, the place after them
 pub lenOf-next : (n : ℕ) (s e : Place) → s < n → e < n → lenOf n s e < n → On n s (lenOf n s e) (next n e)
 lenOf-next n s e hs he h =
     let p = lenOf-some n s e hs he in

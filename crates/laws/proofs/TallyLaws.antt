@@ -20,6 +20,7 @@ use Rattle.laws.proofs.ChoiceLaws.{and-true, both-true}
 use Rattle.laws.proofs.JournalLaws.{carryOut-length, takeBack-length, undoAll-length}
 use Rattle.laws.proofs.RewriteLaws.{parts}
 
+-- a stop counts for itself alone
 pub one-same : {x v : Stop} → x ≡ v → one x v ≡ 1
 unfolding one
 one-same {x} {v} e = rw (eq-eqb x v e)
@@ -29,11 +30,13 @@ unfolding one
 one-other {x} {v} ne = rw (ne-eqb x v ne)
 
 module _ (v : Stop) where
+  -- of two lists
   pub tally-join : (A B : List Stop) → tally (A ++ B) v ≡ tally A v + tally B v
   unfolding tally
   tally-join [] B = omega arith
   tally-join (a ∷ A) B = omega (arith, tally-join A B)
 
+  -- backwards
   pub tally-reverse : (l : List Stop) → tally (reverse l) v ≡ tally l v
   unfolding tally
   tally-reverse [] = refl
@@ -47,6 +50,7 @@ module _ (v : Stop) where
   unfolding from
   tally-from s f r e = tally-turn (length r - s) (f (turn s r)) ∙ e ∙ tally-turn s r
 
+  -- each rewriting
   pub tally-reverseAt : (s : Place) (len : ℕ) (r : Round) → tally (reverseAt s len r) v ≡ tally r v
   unfolding reverseAt reverseFront
   tally-reverseAt s len r =
@@ -72,6 +76,7 @@ module _ (v : Stop) where
   tally-swapAt i j r hi hj =
       omega (arith, tally-set (set r i (at r j)) j (at r i) (rw (length-set r i (at r j)) hj), tally-set r i (at r j) hi, ap (λ x. one x v) (set-read r i j hi))
 
+  -- an entry in range, carried out and taken back
   pub tally-carryOut : (e : Entry) (r : Round) → inRange (length r) e ≡ true → tally (carryOut e r) v ≡ tally r v
   unfolding carryOut inRange
   tally-carryOut (reversal s l) r h = tally-reverseAt s l r
@@ -101,8 +106,10 @@ pub isRound-kept : (n : ℕ) (r r′ : Round) → length r′ ≡ length r → (
 unfolding isRound
 isRound-kept n r r′ l h = λ i. eqb (l i) n && every (λ v. eqb (h v i) 1) (rising n 0)
 
+-- so do entries in range, carried out
 pub isRound-carryOut : (n : ℕ) (e : Entry) (r : Round) → inRange (length r) e ≡ true → isRound n (carryOut e r) ≡ isRound n r
 isRound-carryOut n e r h = isRound-kept n r (carryOut e r) (carryOut-length e r) (λ v. tally-carryOut v e r h)
 
+-- and taken back
 pub isRound-undoAll : (n : ℕ) (es : List Entry) (r : Round) → every (inRange (length r)) es ≡ true → isRound n (undoAll es r) ≡ isRound n r
 isRound-undoAll n es r h = isRound-kept n r (undoAll es r) (undoAll-length es r) (λ v. tally-undoAll v es r h)

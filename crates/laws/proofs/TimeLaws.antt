@@ -15,6 +15,7 @@ unfoldable pub end : Stop → List Stop → Stop
 end a [] = a
 end a (b ∷ l) = end b l
 
+-- of two parts; by its place
 pub end-join : (a : Stop) (A : List Stop) (b : Stop) (B : List Stop) → end a (A ++ (b ∷ B)) ≡ end b B
 unfolding end
 end-join a [] b B = refl
@@ -26,6 +27,7 @@ end-at a [] = refl
 end-at a (b ∷ l) = end-at b l
 
 module _ (d : Legs) where
+  -- the legs along two parts
   pub along-join : (a : Stop) (A : List Stop) (b : Stop) (B : List Stop) → along d a (A ++ (b ∷ B)) ≡ along d a A + d (end a A) b + along d b B
   unfolding along end
   along-join a [] b B = omega arith

@@ -45,6 +45,7 @@ Scans scan = (P : ℕ → Type 0) (p : ℕ → Bool) (l : List Stop) → All P l
 unfoldable pub Worth : Legs → Track → Bool → Stop → Stop → Time → Trial → Type 0
 Worth d t fwd t1 t2 g x = Lands d t.round (seq3 fwd x.case t1 t2 x.t3 x.t4 x.t5 x.t6 t .round) t1 x.t6 (x.partial + d t1 t2) (g + d x.t6 t1)
 
+-- the same legs, counted otherwise
 pub weighed : {d : Legs} {r after : Round} {t1 last gone come : ℕ} → Lands d r after t1 last gone come → (gone′ come′ : ℕ) → gone′ + come ≡ come′ + gone → Lands d r after t1 last gone′ come′
 weighed l gone′ come′ e = record { way = l.way; rest = l.rest; reads = l.reads; ends = l.ends; legs = omega (arith, l.legs); same = l.same; size = l.size }
 

@@ -15,6 +15,7 @@ use Rattle.laws.proofs.EveryLaws.{All, Below, all-each, all-join, all-k
 use Rattle.laws.proofs.PermLaws.{Perm, ahead-below, behind-below}
 use Rattle.laws.proofs.TrialLaws.{GoodList, Scans}
 
+-- t3 to t6 are stops below n
 pub record Stops (n : ℕ) (x : Trial) : Type 0 where
   pub third : x .t3 < n
   pub fourth : x .t4 < n
@@ -62,6 +63,7 @@ module _ (add cut : Legs) (list : Stop → List Stop) (scan : Scan) (scans : Sca
       all-join _ _ (twos-stops after t3 t4 _ h3 h4)
       (all-each {P = λ t5. (((t5 < length r) × (t5 ≢ t4)) × (ltb (add t4 t5) (g + cut t3 t4) ≡ true)) × _} _ _ (λ t5 f. sixths-stops after t3 t4 t5 _ h3 h4 (f .0 .0 .0)) (all-keep _ _ (scans _ _ _ (good t4 h4))))
 
+  -- of every trial
   pub trials-stops : (g : Time) → t2 < length r → All (Stops (length r)) (trials add cut list scan fwd r t1 t2 g)
   unfolding trials
   trials-stops g h2 =

@@ -33,6 +33,7 @@ pub data On (n : ℕ) (k : Place) (i : ℕ) (p : Place) : Type 0 where
   low : k + i < n → p ≡ k + i → On n k i p
   high : n ≤ k + i → p + n ≡ k + i → On n k i p
 
+-- it is one of the ring
 pub on-below : (n : ℕ) (k : Place) (i : ℕ) (p : Place) → k < n → i < n → On n k i p → p < n
 on-below n k i p hk hi (low l e) = omega arith
 on-below n k i p hk hi (high l e) = omega arith

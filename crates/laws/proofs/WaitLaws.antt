@@ -18,6 +18,7 @@ use Rattle.laws.proofs.QueueLaws.{push-has}
 use Rattle.laws.proofs.RisingLaws.{table-at, table-length, table-set}
 use Rattle.laws.proofs.TurnLaws.{On, low, on-from, on-mod, turn-length, turn-on, turn-set}
 
+-- so many wait
 pub waiting-length : (ws : List ℕ) (head : Place) (count : ℕ) → count ≤ length ws → length (waiting ws head count) ≡ count
 unfolding waiting
 waiting-length ws head count h = length-take-le count (turn head ws) (omega (arith, turn-length head ws))
@@ -61,10 +62,12 @@ bit b = if b then 1 else 0
 abbrev flag : List Stop → Stop → ℕ
 flag q v = bit (has q v)
 
+-- n flags
 pub flagsOf-length : (n : ℕ) (q : List Stop) → length (flagsOf n q) ≡ n
 unfolding flagsOf
 flagsOf-length n q = table-length (flag q) n
 
+-- each says whether its stop waits
 pub flagsOf-at : (n : ℕ) (q : List Stop) (v : Stop) → v < n → at (flagsOf n q) v ≡ (if has q v then 1 else 0)
 unfolding flagsOf
 flagsOf-at n q v h = table-at (flag q) n v h
