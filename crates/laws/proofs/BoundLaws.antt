@@ -15,11 +15,7 @@ use Rattle.rules.specs.Ring.{ahead, along, behind, beside, between, lap, path, 
 use Rattle.rules.specs.Step.{Step}
 use Rattle.rules.specs.Words.{Legs, Place, Round, Stop, Time}
 use Rattle.laws.proofs.ChoiceLaws.{either-way}
-use Rattle.laws.proofs.EveryLaws.{All, all-each, all-image, all-join, all-keep, all-map, more, none}
-
-all-any : {A : Type 0} (xs : List A) → All (λ x. Unit) xs
-all-any [] = none
-all-any (x ∷ xs) = more tt (all-any xs)
+use Rattle.laws.proofs.EveryLaws.{All, all-any, all-each, all-image, all-join, all-keep, all-map, more, none}
 
 -- no leg takes more than 65535
 abbrev pub Short : Legs → Type 0

@@ -14,10 +14,20 @@ pub data All {A : Type 0} (P : A → Type 0) : List A → Type 0 where
   none : All P []
   more : {x : A} {xs : List A} → P x → All P xs → All P (x ∷ xs)
 
+-- one that all things have
+pub all-any : {A : Type 0} (xs : List A) → All (λ x. Unit) xs
+all-any [] = none
+all-any (x ∷ xs) = more tt (all-any xs)
+
 -- a weaker property
 pub all-map : {A : Type 0} {P Q : A → Type 0} (xs : List A) → ((x : A) → P x → Q x) → All P xs → All Q xs
 all-map [] f none = none
 all-map (x ∷ xs) f (more p a) = more (f x p) (all-map xs f a)
+
+-- two properties
+pub all-both : {A : Type 0} {P Q : A → Type 0} (xs : List A) → All P xs → All Q xs → All (λ x. P x × Q x) xs
+all-both [] none none = none
+all-both (x ∷ xs) (more p a) (more q b) = more (p, q) (all-both xs a b)
 
 -- of two lists
 pub all-join : {A : Type 0} {P : A → Type 0} (xs ys : List A) → All P xs → All P ys → All P (xs ++ ys)

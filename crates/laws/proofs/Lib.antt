@@ -39,7 +39,9 @@ pub mod KickLaws
 pub mod SpanLaws
 pub mod KickedLaws
 pub mod StateLaws
+pub mod WithoutLaws
 pub mod StartLaws
+pub mod OrderLaws
 pub mod SearchLaws
 pub mod SearchTimeLaws
 pub mod CheckLaws

@@ -165,9 +165,13 @@ module _ (n : ℕ) (r : Round) (e : isRound n r ≡ true) where
     only = λ v h. omega (arith, none-beyond v h, round-length);
   }
 
+-- a list of n stops that has each below n once passes it
+pub round-is : (n : ℕ) (r : Round) → length r ≡ n → ((v : Stop) → v < n → tally r v ≡ 1) → isRound n r ≡ true
+unfolding isRound
+round-is n r l h =
+    let each-one : every (λ v. eqb (tally r v) 1) (rising n 0) ≡ true = rising-every (λ v. eqb (tally r v) 1) n 0 (λ v a b. eq-eqb (tally r v) 1 (h v (omega arith))) in
+    rw (eq-eqb (length r) n l) each-one
+
 -- and the facts give the check
 pub perm-round : (r : Round) → Perm r → isRound (length r) r ≡ true
-unfolding isRound
-perm-round r p =
-    let every-one : every (λ v. eqb (tally r v) 1) (rising (length r) 0) ≡ true = rising-every (λ v. eqb (tally r v) 1) (length r) 0 (λ v l h. eq-eqb (tally r v) 1 (omega (arith, p.once v, p.has v (omega arith)))) in
-    rw (eq-eqb (length r) (length r) refl) every-one
+perm-round r p = round-is (length r) r refl (λ v h. omega (arith, p.once v, p.has v h))

@@ -1,5 +1,5 @@
 -- The numbers from a on: tests over them, and tables with a word for each.
-use Prim.Native.Nat.{_+_, _<_, _≤_, suc, zero, ℕ}
+use Prim.Native.Nat.{_+_, _-_, _<_, _≤_, suc, zero, ℕ}
 use mathlib.Core.Path.{_∙_, _≡_, ap, refl, subst, sym}
 use mathlib.Core.Logic.{_≢_}
 use mathlib.Core.Bool.{Bool, true}
@@ -9,8 +9,9 @@ use native.Mathlib.Nat.{zero-add}
 use native.Mathlib.Omega.{arith}
 use lib.ListN.{length, length-set, set}
 use lib.Seq.{ext-getD, getD-set-other, getD-set-same}
-use Rattle.rules.specs.Lists.{at, every, rising}
+use Rattle.rules.specs.Lists.{at, every, one, rising, tally}
 use Rattle.laws.proofs.ChoiceLaws.{both-true}
+use Rattle.laws.proofs.TallyLaws.{one-other, one-same}
 
 -- of the numbers from a on, `count` of them
 pub every-rising : (p : ℕ → Bool) (count a : ℕ) → every p (rising count a) ≡ true → (v : ℕ) → a ≤ v → v < a + count → p v ≡ true
@@ -64,3 +65,37 @@ table-set f g n v hv other =
       | yes e ↦ rw (e, table-at g n v hv) (sym (getD-set-same F v (g v) 0 (omega (arith, table-length f n))))
       | no ne ↦ table-at g n u hu ∙ other u ne ∙ sym (getD-set-other F v u (g v) 0 ne ∙ table-at f n u hu)
     ])
+
+-- ---- each is there once, and no other
+pub rising-none : (count a v : ℕ) → v < a → tally (rising count a) v ≡ 0
+unfolding rising tally
+rising-none zero a v h = refl
+rising-none (suc count) a v h = let ne : a ≢ v = omega arith in omega (arith, one-other ne, rising-none count (a + 1) v (omega arith))
+
+pub rising-one : (count a v : ℕ) → a ≤ v → v < a + count → tally (rising count a) v ≡ 1
+unfolding rising tally
+rising-one zero a v h k = absurd (omega arith)
+rising-one (suc count) a v h k = elim (ℕ-discrete a v) [
+  | yes e ↦ omega (arith, one-same e, rising-none count (a + 1) v (omega arith))
+  | no ne ↦ omega (arith, one-other ne, rising-one count (a + 1) v (omega arith) (omega arith))
+]
+
+pub rising-once : (count a v : ℕ) → tally (rising count a) v ≤ 1
+unfolding rising tally
+rising-once zero a v = omega arith
+rising-once (suc count) a v = elim (ℕ-discrete a v) [
+  | yes e ↦ omega (arith, one-same e, rising-none count (a + 1) v (omega arith))
+  | no ne ↦ omega (arith, one-other ne, rising-once count (a + 1) v)
+]
+
+pub rising-beyond : (count a v : ℕ) → a + count ≤ v → tally (rising count a) v ≡ 0
+unfolding rising tally
+rising-beyond zero a v h = refl
+rising-beyond (suc count) a v h = let ne : a ≢ v = omega arith in omega (arith, one-other ne, rising-beyond count (a + 1) v (omega arith))
+
+-- 0, and the numbers from 1 to n - 1
+pub zero-rising : (n v : ℕ) → 1 ≤ n → v < n → one 0 v + tally (rising (n - 1) 1) v ≡ 1
+zero-rising n v h hv = elim (ℕ-discrete 0 v) [
+  | yes e ↦ omega (arith, one-same e, rising-none (n - 1) 1 v (omega arith))
+  | no ne ↦ omega (arith, one-other ne, rising-one (n - 1) 1 v (omega arith) (omega arith))
+]
