@@ -196,11 +196,6 @@ unfolding passing keep rising
 all-pass p zero a h = refl
 all-pass p (suc count) a h = passing-yes p count a (h a (omega arith)) ∙ ap (λ (l : List Stop). a ∷ l) (all-pass p count (a + 1) (λ v low. h v (omega arith)))
 
-pub length-rising : (count a : ℕ) → length (rising count a) ≡ count
-unfolding rising
-length-rising zero a = refl
-length-rising (suc count) a = ap suc (length-rising count (a + 1))
-
 -- the start round's number: 1, then 3
 module _ (n : ℕ) (matrix : List Time) (round : Round) where
   pub start-none : n < 1 → startNumber n matrix round ≡ 1

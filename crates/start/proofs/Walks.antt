@@ -17,7 +17,8 @@ use Rattle.rules.specs.Plan.{legIn}
 use Rattle.rules.specs.Start.{startFrom, startRound}
 use Rattle.rules.specs.Contracts.{Square}
 use Rattle.laws.proofs.CellLaws.{row-within, cells-few}
-use Rattle.laws.proofs.StartLaws.{passing, passing-no, all-pass, length-rising, start-on, passing-without, passing-fewer, some-passes}
+use Rattle.laws.proofs.RisingLaws.{rising-length}
+use Rattle.laws.proofs.StartLaws.{passing, passing-no, all-pass, start-on, passing-without, passing-fewer, some-passes}
 use Rattle.start.specs.Mask.{Mask, Left, Blank}
 use Rattle.start.specs.Near.{Nearest}
 
@@ -80,7 +81,7 @@ module _ (matrix : List Time) (n : ℕ) (mask : List ℕ) (round : Round) (few :
         masks = mask-set mask 0 inside (record { few = few; room = b .room; flag = λ v l. inl (b .zeros v) });
         long = length-set round 0 0 ∙ long;
         below = some;
-        count = omega (arith, ap length all, length-rising (n - 1) 1);
+        count = omega (arith, ap length all, rising-length (n - 1) 1);
         goes =
             ap (λ (r : Round). r ++ startFrom (legIn n matrix) (n - 1) 0 (passing (left (marked mask 0)) n 0)) (take-suc-set round 0 0 (omega arith))
             ∙ ap (λ (l : List Stop). 0 ∷ startFrom (legIn n matrix) (n - 1) 0 l) all;

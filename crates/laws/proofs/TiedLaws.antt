@@ -1,0 +1,96 @@
+-- 01, number 7, "places its inverse": the round determines its places, and stops are read off them.
+use Prim.Native.Nat.{_<_, _≤_, suc, ℕ}
+use mathlib.Core.Path.{_∙_, _≡_, ap, subst, sym}
+use mathlib.Core.Bool.{Bool, false, true}
+use mathlib.Core.List.{List, [], _∷_}
+use native.Mathlib.Decide.{decLt, ℕ-discrete}
+use native.Mathlib.Omega.{arith}
+use lib.ListN.{length}
+use lib.Seq.{ext-getD}
+use Rattle.rules.specs.Contracts.{Tied}
+use Rattle.rules.specs.Lists.{at, if_then_else_, tally}
+use Rattle.rules.specs.Ring.{between, isRound, next, onWay, place, placesOf, pred, prev, succ}
+use Rattle.rules.specs.Words.{Place, Round, Stop}
+use Rattle.laws.proofs.PermLaws.{Perm, perm-at, perm-place, perm-round, round-length, round-perm}
+use Rattle.laws.proofs.PlaceLaws.{at-place, place-below, tally-at}
+use Rattle.laws.proofs.RisingLaws.{table-at, table-length}
+use Rattle.laws.proofs.TallyLaws.{one-other, one-same}
+
+-- the table of places
+pub placesOf-length : (r : Round) → length (placesOf r) ≡ length r
+unfolding placesOf
+placesOf-length r = table-length (place r) (length r)
+
+pub placesOf-at : (r : Round) (v : Stop) → v < length r → at (placesOf r) v ≡ place r v
+unfolding placesOf
+placesOf-at r v h = table-at (place r) (length r) v h
+
+-- a round of at most 4096 stops is tied to its places
+pub round-tied : (n : ℕ) (r : Round) → isRound n r ≡ true → n ≤ 4096 → Tied r (placesOf r)
+round-tied n r e few =
+    let p = round-perm n r e in
+    record {
+      few = omega (arith, round-length n r e);
+      same = placesOf-length r;
+      stop = perm-at r p;
+      place = λ v h. rw (placesOf-at r v h) (place-below r v (p.has v h));
+      back = λ i h. placesOf-at r (at r i) (perm-at r p i h) ∙ perm-place r p i h;
+      forth = λ v h. ap (at r) (placesOf-at r v h) ∙ at-place r v (p.has v h);
+    }
+
+-- ---- what is tied to a round
+-- a list with no stop at two places has each once at most
+apart-once : (x : List Stop) → ((i j : Place) → i < length x → j < length x → at x i ≡ at x j → i ≡ j) → (v : Stop) → tally x v ≤ 1
+unfolding tally
+apart-once [] h v = omega arith
+apart-once (a ∷ x) h v =
+    let rest = apart-once x (λ i j hi hj e. omega (arith, h (suc i) (suc j) (omega arith) (omega arith) e)) v in
+    elim (ℕ-discrete a v) [
+      | yes e ↦ elim (decLt 0 (tally x v)) [
+        | yes k ↦ (let z : suc (place x v) ≡ 0 = h (suc (place x v)) 0 (omega (arith, place-below x v k)) (omega arith) (at-place x v k ∙ sym e) in absurd (omega arith))
+        | no k ↦ omega (arith, one-same e)
+      ]
+      | no ne ↦ omega (arith, one-other ne, rest)
+    ]
+
+module _ {r : Round} {places : List Place} (t : Tied r places) where
+  -- two places with one stop are one place
+  apart : (i j : Place) → i < length r → j < length r → at r i ≡ at r j → i ≡ j
+  apart i j hi hj e = sym (t .back i hi) ∙ ap (at places) e ∙ t .back j hj
+
+  -- it holds each stop once
+  pub tied-perm : Perm r
+  tied-perm = record {
+    once = apart-once r apart;
+    has = λ v h. subst (λ u. 0 < tally r u) (t .forth v h) (tally-at r (at places v) (t .place v h));
+    only = λ v h. subst (λ u. u < length r) (at-place r v h) (t .stop (place r v) (place-below r v h));
+  }
+
+  pub tied-round : isRound (length r) r ≡ true
+  tied-round = perm-round r tied-perm
+
+  -- the place of a stop
+  pub place-tied : (v : Stop) → v < length r → place r v ≡ at places v
+  place-tied v h = ap (place r) (sym (t .forth v h)) ∙ perm-place r tied-perm (at places v) (t .place v h)
+
+  -- the places are those that belong to the round
+  pub tied-places : places ≡ placesOf r
+  tied-places =
+      ext-getD 0 places (placesOf r) (t .same ∙ sym (placesOf-length r)) (λ v h.
+      let hv : v < length r = omega (arith, t .same) in sym (placesOf-at r v hv ∙ place-tied v hv))
+
+  -- the stops beside a stop, in the ring's direction and against it
+  pub succ-tied : (v : Stop) → v < length r → succ r v ≡ at r (next (length r) (at places v))
+  unfolding succ
+  succ-tied v h = ap (λ p. at r (next (length r) p)) (place-tied v h)
+
+  pub pred-tied : (v : Stop) → v < length r → pred r v ≡ at r (prev (length r) (at places v))
+  unfolding pred
+  pred-tied v h = ap (λ p. at r (prev (length r) p)) (place-tied v h)
+
+  -- whether a stop lies between two, read off their places
+  pub between-tied : (fwd : Bool) (a b c : Stop) → a < length r → b < length r → c < length r
+      → between fwd r a b c ≡ (if fwd then onWay (at places a) (at places b) (at places c) else onWay (at places c) (at places b) (at places a))
+  unfolding between
+  between-tied true a b c ha hb hc = rw (place-tied a ha, place-tied b hb, place-tied c hc)
+  between-tied false a b c ha hb hc = rw (place-tied a ha, place-tied b hb, place-tied c hc)
