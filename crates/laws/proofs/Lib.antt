@@ -6,3 +6,4 @@ pub mod OrderLaws
 pub mod ExactLaws
 pub mod SetLaws
 pub mod OnwardLaws
+pub mod TableLaws
