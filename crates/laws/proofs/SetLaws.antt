@@ -9,7 +9,7 @@ use native.Mathlib.Nat.{div-div-eq-div-mul, pow-succ'}
 use native.Mathlib.Omega.{arith}
 use lib.Dec.{eqb}
 use lib.ListN.{length}
-use lib.Pow.{pow-pos}
+use lib.Pow.{pow-pos, pow-mono}
 use borrow.Author.Tests.{eq-eqb, ne-eqb, eqb-true, eqb-false}
 use Rattle.rules.specs.Words.{Stop}
 use Rattle.rules.specs.Lists.{rising, keep}
@@ -58,7 +58,7 @@ bitOf k = 2 ^ (k - 1)
 bit-of : (i : ℕ) → bitOf (suc i) ≡ 2 ^ i
 bit-of i = let e : suc i - 1 ≡ i = omega arith in ap (λ x. 2 ^ x) e
 
-bit-set : (s i : ℕ) → member s (suc i) ≡ true → s / 2 ^ i % 2 ≡ 1
+pub bit-set : (s i : ℕ) → member s (suc i) ≡ true → s / 2 ^ i % 2 ≡ 1
 unfolding member
 bit-set s i h = eqb-true (s / 2 ^ i % 2) 1 h
 
@@ -66,6 +66,13 @@ pub member-fits : (s : ℕ) (k : Stop) → member s k ≡ true → bitOf k ≤ s
 unfolding member
 member-fits s zero h = absurd (true-false (sym h))
 member-fits s (suc i) h = rw (bit-of i) (off-fits s i (bit-set s i h))
+
+pub member-below : (m s : ℕ) (k : Stop) → s < 2 ^ m → member s k ≡ true → k ≤ m
+member-below m s k b h = go (decLe k m)
+  where
+    go : Dec (k ≤ m) → k ≤ m
+    go (yes l) = l
+    go (no l) = let z : m ≤ k - 1 = omega arith in absurd (omega (arith, member-fits s k h, pow-mono z))
 
 -- a set without one of its stops
 module _ (s : ℕ) where
