@@ -1,2 +1,4 @@
 pub mod Bits
 pub mod Cells
+pub mod Rows
+pub mod Fills

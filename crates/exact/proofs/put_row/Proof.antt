@@ -1,53 +1,59 @@
+use Prim.Native.Nat.{ℕ, _+_, _-_, _*_, _≤_, _<_}
+use mathlib.Core.Path.{_≡_, refl, subst}
+use native.Mathlib.Omega.{arith}
+use Rattle.exact.specs.Inner.{Put}
+use Rattle.exact.proofs.Fills.{put-starts, put-next}
 use Rattle.exact.proofs.put_row.Statement.{statement}
 use Rattle.exact.proofs.put_row.Tie as tie
 use Rattle.exact.proofs.put_row.Reads as reads
 use Rattle.exact.proofs.put_row.Lts as lts
 
 abbrev Inv-loop : tie.InvT-loop
-Inv-loop part₀ m row i₀ part i = ?
+Inv-loop part₀ m row i₀ part i = (i ≤ m) × Put part₀ row i part
 
 abbrev μ-loop : tie.MeasureT-loop
-μ-loop part₀ m row i₀ part i = ?
+μ-loop part₀ m row i₀ part i = m - i
 
 -- src/lib.rt:100:5
 loop-holds : tie.Need-loop-holds Inv-loop μ-loop
-loop-holds c = ?
+loop-holds c = (omega arith, put-starts _ _)
 
 -- src/lib.rt:101:19
 mul-part : tie.Need-mul-part Inv-loop μ-loop
-mul-part c = ?
+mul-part c = omega arith
 
 -- src/lib.rt:101:19
 array-read-part : tie.Need-array-read-part Inv-loop μ-loop
-array-read-part c = ?
+array-read-part c = omega arith
 
 -- src/lib.rt:101:9
 mul-part-2 : tie.Need-mul-part-2 Inv-loop μ-loop
-mul-part-2 c = ?
+mul-part-2 c = omega arith
 
 -- src/lib.rt:101:9
 slice-write-part : tie.Need-slice-write-part Inv-loop μ-loop
-slice-write-part c = ?
+slice-write-part c = omega (arith, (c .before .loop) .inv .1 .long)
 
 -- src/lib.rt:102:9
 add-i : tie.Need-add-i Inv-loop μ-loop
-add-i c = ?
+add-i c = omega arith
 
 -- src/lib.rt:100:5
 loop-less : tie.Need-loop-less Inv-loop μ-loop
-loop-less c = ?
+loop-less c = omega arith
 
 -- src/lib.rt:100:5
 loop-again : tie.Need-loop-again Inv-loop μ-loop
-loop-again c = ?
+loop-again c = (omega arith, put-next ((c .before .before .args) .part .now) ((c .before .before .args) .t2) ((c .before .loop) .i) ((c .before .loop) .part) (omega arith) ((c .before .loop) .inv .1) _ refl)
 
 -- src/lib.rt:95:1
 same-length : tie.Need-same-length Inv-loop μ-loop
-same-length c = ?
+same-length c = (c .before .loop) .inv .1 .long
 
 -- src/lib.rt:95:1
 returns : tie.Need-returns Inv-loop μ-loop
-returns c = ?
+returns c = let e : (c .before .loop) .i ≡ (c .before .before .args) .m = omega arith in
+    subst (λ j. Put ((c .before .before .args) .part .now) ((c .before .before .args) .t2) j ((c .before .loop) .part)) e ((c .before .loop) .inv .1)
 
 pub put-row-spec : {M : Type 1} → statement M
 put-row-spec =
