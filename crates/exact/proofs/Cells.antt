@@ -65,13 +65,13 @@ module _ (m s : ℕ) (k : Stop) (b : s < 2 ^ m) (l : Lowest s k) where
   rest-less r h = omega (arith, h .is k l, member-fits s k (l .there), pow-pos (k - 1))
 
 -- a set that is not empty has a stop
-members-some : (m s : ℕ) → m ≤ 24 → s < 2 ^ m → 0 < s → 0 < length (members m s)
+pub members-some : (m s : ℕ) → m ≤ 24 → s < 2 ^ m → 0 < s → 0 < length (members m s)
 members-some m s few b h =
     let f : s < 16777216 = omega (arith, pow-mono few) in
     omega (arith, ap length (opens m s (trailingZeros 64 s + 1) b (lowest-is s h f)))
 
 -- on from stop k by the stops of a set
-abbrev onBy : List Time → ℕ → ℕ → Stop → Stop → Time
+abbrev pub onBy : List Time → ℕ → ℕ → Stop → Stop → Time
 onBy matrix n set k j = legIn n matrix k j + tableWord (legIn n matrix) (n - 1) set j
 
 -- the stops of `left` are still to be looked at

@@ -2,3 +2,4 @@ pub mod Bits
 pub mod Cells
 pub mod Rows
 pub mod Fills
+pub mod Choices

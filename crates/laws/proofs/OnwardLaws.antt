@@ -147,6 +147,15 @@ pub record Nearest (f : Stop → Time) (l : List Stop) (k : Stop) : Type 0 where
   pub low : (v : Stop) → In v l → f k ≤ f v
   pub first : (v : Stop) → In v l → f v ≡ f k → k ≤ v
 
+module _ (f : Stop → Time) (so v : Stop) (l : List Stop) where
+  pub nearer : f v < f so → nearest f so (v ∷ l) ≡ nearest f v l
+  unfolding nearest
+  nearer h = simp (lt-ltb (f v) (f so) h)
+
+  pub farther : f so ≤ f v → nearest f so (v ∷ l) ≡ nearest f so l
+  unfolding nearest
+  farther h = simp (le-ltb (f v) (f so) h)
+
 module _ (f : Stop → Time) where
   nearest-later : (so v : Stop) (l : List Stop) (k : Stop) → f v < f so → Nearest f (v ∷ l) k → Nearest f (so ∷ v ∷ l) k
   nearest-later so v l k h n = record { there = down (n .there); low = lo; first = fi }
@@ -187,12 +196,14 @@ module _ (f : Stop → Time) where
       fi : (x : Stop) → In x (so ∷ []) → f x ≡ f so → so ≤ x
       fi x top e = omega arith
       fi x (down z) e = absurd (omega (arith, in-some z))
-  nearest-is i so (v ∷ l) u = go (decLt (f v) (f so)) (nearest-is (suc so) v l (u .1)) (nearest-is i so l (u .0, up-lower (suc so) (suc v) l (omega (arith, u .1 .0)) (u .1 .1)))
-    where
-      go : Dec (f v < f so) → Nearest f (v ∷ l) (nearest f v l) → Nearest f (so ∷ l) (nearest f so l)
-          → Nearest f (so ∷ v ∷ l) (nearest f (if ltb (f v) (f so) then v else so) l)
-      go (yes h) n n′ = rw (lt-ltb (f v) (f so) h) (nearest-later so v l (nearest f v l) h n)
-      go (no h) n n′ = rw (le-ltb (f v) (f so) (omega arith)) (nearest-sooner so v l (nearest f so l) (omega (arith, u .1 .0)) (omega arith) n′)
+  nearest-is i so (v ∷ l) u =
+      elim (decLt (f v) (f so)) [
+        | yes h ↦ rw (nearer f so v l h) (nearest-later so v l (nearest f v l) h (nearest-is (suc so) v l (u .1)))
+        | no h ↦
+            let k : f so ≤ f v = omega arith in
+            let n = nearest-is i so l (u .0, up-lower (suc so) (suc v) l (omega (arith, u .1 .0)) (u .1 .1)) in
+            rw (farther f so v l k) (nearest-sooner so v l (nearest f so l) (omega (arith, u .1 .0)) k n)
+      ]
 
 pub nearest-same : (f g : Stop → Time) (so : Stop) (l : List Stop) → ((v : Stop) → In v (so ∷ l) → f v ≡ g v) → nearest f so l ≡ nearest g so l
 unfolding nearest
