@@ -3,3 +3,4 @@ pub mod Cells
 pub mod Rows
 pub mod Fills
 pub mod Choices
+pub mod Backs

@@ -60,6 +60,14 @@ pub record Walked (matrix : List Time) (n : ℕ) (round : Round) (time : Time) :
   pub goes : round ≡ 0 ∷ wayOn (legIn n matrix) (n - 1) 0 (rising (n - 1) 1)
   pub takes : time ≡ homeward (legIn n matrix) 0 (wayOn (legIn n matrix) (n - 1) 0 (rising (n - 1) 1))
 
+-- what is left where nothing is refused
+pub record Ready (n : ℕ) (matrix : List Time) (round : Round) (table : List Time) : Type 0 where
+  pub low : 1 ≤ n
+  pub high : n ≤ 25
+  pub square : length matrix ≡ n * n
+  pub long : length round ≡ n
+  pub room : 2 ^ (n - 1) * (n - 1) ≤ length table
+
 -- r is the number for lists of these lengths
-pub record Refusal (n cells stops words r : ℕ) : Type 0 where
+pub record Number (n cells stops words r : ℕ) : Type 0 where
   pub says : (matrix : List Time) (round : Round) (table : List Time) → length matrix ≡ cells → length round ≡ stops → length table ≡ words → r ≡ exactNumber n matrix round table

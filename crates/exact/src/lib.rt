@@ -6,14 +6,16 @@ use legs::wide;
 
 ghost use mathlib.Core.Path.{_≡_};
 ghost use Prim.Native.Nat.{_+_, _-_, _*_, _^_, _<_, _≤_};
+ghost use mathlib.Core.Bool.{_&&_};
+ghost use lib.Dec.{eqb, leb};
 ghost use lib.ListN.{length};
-ghost use Rattle.rules.specs.Lists.{rising};
+ghost use Rattle.rules.specs.Lists.{if_then_else_};
 ghost use Rattle.rules.specs.Plan.{legIn};
 ghost use Rattle.rules.specs.Table.{members};
 ghost use Rattle.rules.specs.Calls.{tableLeft};
 ghost use Rattle.laws.proofs.OnwardLaws.{onward};
-ghost use Rattle.exact.specs.Inner.{Sized, Words, Lowest, Rest, Via, Row, Put, Choice, Walked, Refusal};
-ghost use Rattle.exact.specs.Promise.{Solve};
+ghost use Rattle.exact.specs.Inner.{Sized, Words, Lowest, Rest, Via, Row, Put, Choice, Walked, Ready, Number};
+ghost use Rattle.exact.specs.Promise.{Done, Solve};
 
 // 2 to the power i.
 fn power(i: usize) -> usize
@@ -60,16 +62,16 @@ fn cheapest(matrix: &[u16], n: usize, table: &[u32], set: usize, k: Stop) -> u32
     if set == 0 {
         return dist(matrix, n, k, Stop(0));
     }
-    let mut best: u32 = 2147483647;
+    let mut least: u32 = 2147483647;
     let mut left = set;
     while left != 0 {
         let time = via(matrix, n, table, set, k, lowest(left));
-        if time < best {
-            best = time;
+        if time < least {
+            least = time;
         }
         left = rest(left);
     }
-    best
+    least
 }
 
 // The row of the set s, by the rows before it. Stops that are not in the set keep 2147483647.
@@ -161,12 +163,61 @@ fn walk_back(matrix: &[u16], n: usize, table: &[u32], round: &mut [u32]) -> u32
         last = k;
         i += 1;
     }
-    time + dist(matrix, n, last, Stop(0))
+    let home = dist(matrix, n, last, Stop(0));
+    time + home
 }
 
-// The number of the answer by n and the lengths of the matrix, the round and the table.
-fn refusal(n: usize, cells: usize, stops: usize, words: usize) -> u32
-    ensures { λ r. ⌜ Refusal n cells stops words r ⌝ }
+// The exact round and its time, where nothing is refused. A round of one stop takes 0, and its table has no words.
+fn run(matrix: &[u16], n: usize, table: &mut [u32], round: &mut [u32]) -> u32
+    requires { ⌜ Ready n (now matrix) (now round) (now table) ⌝ }
+    ensures { λ r. ⌜ Done (now (matrix .entry)) n (now (table .entry)) (now (table .exit)) (now (round .exit)) r ⌝ }
+{
+    if n == 1 {
+        round[0] = 0;
+        return 0;
+    }
+    fill(matrix, n, table);
+    walk_back(matrix, n, &table[..], round)
+}
+
+// 3 where a lent length is not what n says.
+fn lengths_number(n: usize, cells: usize, stops: usize) -> u32
+    requires { ⌜ n ≤ 25 ⌝ }
+    ensures { λ r. ⌜ r ≡ (if eqb cells (n * n) && eqb stops n then 0 else 3) ⌝ }
+{
+    if cells != n * n {
+        return 3;
+    }
+    if stops != n {
+        return 3;
+    }
+    0
+}
+
+// 4 where the table is too small.
+fn room_number(n: usize, words: usize) -> u32
+    requires { ⌜ (1 ≤ n) × (n ≤ 25) ⌝ }
+    ensures { λ r. ⌜ r ≡ (if leb (2 ^ (n - 1) * (n - 1)) words then 0 else 4) ⌝ }
+{
+    if words < power(n - 1) * (n - 1) {
+        return 4;
+    }
+    0
+}
+
+// Of the numbers of two checks, that of the first that fails.
+fn first_number(one: u32, next: u32) -> u32
+    ensures { λ r. ⌜ r ≡ (if eqb one 0 then next else one) ⌝ }
+{
+    if one != 0 {
+        return one;
+    }
+    next
+}
+
+// The answer's number, by n and the lengths of the matrix, the round and the table.
+fn number_of(n: usize, cells: usize, stops: usize, words: usize) -> u32
+    ensures { λ r. ⌜ Number n cells stops words r ⌝ }
 {
     if n < 1 {
         return 1;
@@ -174,16 +225,9 @@ fn refusal(n: usize, cells: usize, stops: usize, words: usize) -> u32
     if n > 25 {
         return 1;
     }
-    if cells != n * n {
-        return 3;
-    }
-    if stops != n {
-        return 3;
-    }
-    if words < power(n - 1) * (n - 1) {
-        return 4;
-    }
-    0
+    let lengths = lengths_number(n, cells, stops);
+    let room = room_number(n, words);
+    first_number(lengths, room)
 }
 
 // An answer: its number, and the round's time.
@@ -196,18 +240,13 @@ pub struct Solved {
 pub fn solve_tsp_exact(matrix: &[u16], n: usize, table: &mut [u32], round: &mut [u32]) -> Solved
     ensures { λ r. ⌜ Solve (now (matrix .entry)) n (now (table .entry)) (now (table .exit)) (now (round .entry)) (now (round .exit)) (r .number) (r .time) ⌝ }
 {
-    let number = refusal(n, matrix.len(), round.len(), table.len());
-    if number != 0 {
-        return Solved { number: number, time: 0 };
+    let number = number_of(n, matrix.len(), round.len(), table.len());
+    let mut time: u32 = 0;
+    if number == 0 {
+        time = run(matrix, n, table, round);
     }
-    if n == 1 {
-        round[0] = 0;
-        return Solved { number: 0, time: 0 };
-    }
-    fill(matrix, n, table);
-    let time = walk_back(matrix, n, &table[..], round);
     Solved {
-        number: 0,
+        number: number,
         time: time,
     }
 }

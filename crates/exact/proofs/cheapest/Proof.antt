@@ -12,10 +12,10 @@ use Rattle.exact.proofs.via.Reads as via-reads
 use Rattle.legs.proofs.dist.Reads as dist-reads
 
 abbrev Inv-loop : tie.InvT-loop
-Inv-loop matrix n table set k best₀ left₀ best left = Scan matrix n set (k .0) best left
+Inv-loop matrix n table set k least₀ left₀ least left = Scan matrix n set (k .0) least left
 
 abbrev μ-loop : tie.MeasureT-loop
-μ-loop matrix n table set k best₀ left₀ best left = left
+μ-loop matrix n table set k least₀ left₀ least left = left
 
 -- src/lib.rt:61:9
 dist-requires : tie.Need-dist-requires Inv-loop μ-loop
@@ -47,12 +47,12 @@ loop-less c = rest-less ((c .before .before .before .before .before .before .bef
 
 -- src/lib.rt:65:5
 loop-again : tie.Need-loop-again Inv-loop μ-loop
-loop-again c = let next = scan-next ((c .before .before .before .before .before .before .before .before .before .args) .matrix .now) ((c .before .before .before .before .before .before .before .before .before .args) .n) ((c .before .before .before .before .before .before .before .before .before .args) .set) ((c .before .before .before .before .before .before .before .before .before .args) .k .0) ((c .before .before .before .before .before .loop) .best) ((c .before .before .before .before .before .loop) .left) ((c .before .before .before .before .before .loop) .inv) ((c .before .before .before .lowest) .result .0) ((c .before .before .before .lowest) .ensures) ((c .rest) .result) ((c .rest) .ensures) ((c .before .before .via) .result) ((c .before .before .via) .ensures) ((c .before .if2) .best) in
+loop-again c = let next = scan-next ((c .before .before .before .before .before .before .before .before .before .args) .matrix .now) ((c .before .before .before .before .before .before .before .before .before .args) .n) ((c .before .before .before .before .before .before .before .before .before .args) .set) ((c .before .before .before .before .before .before .before .before .before .args) .k .0) ((c .before .before .before .before .before .loop) .least) ((c .before .before .before .before .before .loop) .left) ((c .before .before .before .before .before .loop) .inv) ((c .before .before .before .lowest) .result .0) ((c .before .before .before .lowest) .ensures) ((c .rest) .result) ((c .rest) .ensures) ((c .before .before .via) .result) ((c .before .before .via) .ensures) ((c .before .if2) .least) in
     ⊎-elim (λ v. next (omega (arith, v .0 .taken, v .1))) (λ v. next (omega (arith, v .0 .left, v .1))) ((c .before .if2) .came)
 
 -- src/lib.rt:54:1
 returns-2 : tie.Need-returns-2 Inv-loop μ-loop
-returns-2 c = scan-done ((c .before .before .before .before .before .args) .matrix .now) ((c .before .before .before .before .before .args) .n) ((c .before .before .before .before .before .args) .set) ((c .before .before .before .before .before .args) .k .0) ((c .before .loop) .best) ((c .before .loop) .left) ((c .before .loop) .inv) ((c .before .before .before .before .before .pre) .0 .high) ((c .before .before .before .before .before .pre) .1 .0 .0) ((c .before .before .if1) .left) ((c .loop-test) .left)
+returns-2 c = scan-done ((c .before .before .before .before .before .args) .matrix .now) ((c .before .before .before .before .before .args) .n) ((c .before .before .before .before .before .args) .set) ((c .before .before .before .before .before .args) .k .0) ((c .before .loop) .least) ((c .before .loop) .left) ((c .before .loop) .inv) ((c .before .before .before .before .before .pre) .0 .high) ((c .before .before .before .before .before .pre) .1 .0 .0) ((c .before .before .if1) .left) ((c .loop-test) .left)
 
 pub cheapest-spec : {M : Type 1} → statement M
 cheapest-spec =

@@ -51,8 +51,8 @@ loop-less c = rest-less ((c .before .before .before .before .before .before .bef
 
 -- src/lib.rt:132:5
 loop-again : tie.Need-loop-again Inv-loop μ-loop
-loop-again c = ⊎-elim (λ v. rw (v .1, v .2) (choosing-near ((c .before .before .before .before .before .before .before .before .before .before .before .args) .matrix .now) ((c .before .before .before .before .before .before .before .before .before .before .before .args) .n) ((c .before .before .before .before .before .before .before .before .before .before .before .args) .set) ((c .before .before .before .before .before .before .before .before .before .before .before .args) .last .0) ((c .before .before .before .before .before .loop) .k .0) ((c .before .before .before .before .before .loop) .best) ((c .before .before .before .before .before .loop) .left) ((c .before .before .before .before .before .loop) .inv) ((c .before .before .before .lowest2) .result .0) ((c .before .before .before .lowest2) .ensures) ((c .rest2) .result) ((c .rest2) .ensures) ((c .before .before .via2) .result) ((c .before .before .via2) .ensures) (v .0 .taken)))
-    (λ v. rw (v .1, v .2) (choosing-far ((c .before .before .before .before .before .before .before .before .before .before .before .args) .matrix .now) ((c .before .before .before .before .before .before .before .before .before .before .before .args) .n) ((c .before .before .before .before .before .before .before .before .before .before .before .args) .set) ((c .before .before .before .before .before .before .before .before .before .before .before .args) .last .0) ((c .before .before .before .before .before .loop) .k .0) ((c .before .before .before .before .before .loop) .best) ((c .before .before .before .before .before .loop) .left) ((c .before .before .before .before .before .loop) .inv) ((c .before .before .before .lowest2) .result .0) ((c .before .before .before .lowest2) .ensures) ((c .rest2) .result) ((c .rest2) .ensures) ((c .before .before .via2) .result) ((c .before .before .via2) .ensures) (v .0 .left)))
+loop-again c = ⊎-elim (λ v. rw (v .1, v .2) (choosing-near ((c .before .before .before .before .before .before .before .before .before .before .before .args) .matrix .now) ((c .before .before .before .before .before .before .before .before .before .before .before .args) .n) ((c .before .before .before .before .before .before .before .before .before .before .before .args) .set) ((c .before .before .before .before .before .before .before .before .before .before .before .args) .last .0) ((c .before .before .before .before .before .loop) .k .0) ((c .before .before .before .before .before .loop) .best) ((c .before .before .before .before .before .loop) .left) ((c .before .before .before .before .before .loop) .inv) ((c .before .before .before .lowest2) .result .0) ((c .before .before .before .lowest2) .ensures) ((c .rest2) .result) ((c .rest2) .ensures) ((c .before .before .via2) .result) ((c .before .before .via2) .ensures) (omega (arith, v .0 .taken))))
+    (λ v. rw (v .1, v .2) (choosing-far ((c .before .before .before .before .before .before .before .before .before .before .before .args) .matrix .now) ((c .before .before .before .before .before .before .before .before .before .before .before .args) .n) ((c .before .before .before .before .before .before .before .before .before .before .before .args) .set) ((c .before .before .before .before .before .before .before .before .before .before .before .args) .last .0) ((c .before .before .before .before .before .loop) .k .0) ((c .before .before .before .before .before .loop) .best) ((c .before .before .before .before .before .loop) .left) ((c .before .before .before .before .before .loop) .inv) ((c .before .before .before .lowest2) .result .0) ((c .before .before .before .lowest2) .ensures) ((c .rest2) .result) ((c .rest2) .ensures) ((c .before .before .via2) .result) ((c .before .before .via2) .ensures) (omega (arith, v .0 .left))))
     ((c .before .if1) .came)
 
 -- src/lib.rt:123:1
