@@ -75,8 +75,8 @@ module _ (matrix : List Time) (n : ℕ) (two : 2 ≤ n) where
           let step : n - i ≡ suc (n - (i + 1)) = omega arith in
           let p = wayOn (legIn n matrix) (n - (i + 1)) k (members (n - 1) (left - bit)) in
           let on : wayOn (legIn n matrix) (n - i) last (members (n - 1) left) ≡ k ∷ p =
-              ap (λ x. wayOn (legIn n matrix) x last (members (n - 1) left)) step ∙ c .goes (n - (i + 1))
-              ∙ ap (λ x. k ∷ wayOn (legIn n matrix) (n - (i + 1)) k (members (n - 1) (left - x))) (sym b) in
+          ap (λ x. wayOn (legIn n matrix) x last (members (n - 1) left)) step ∙ c .goes (n - (i + 1))
+          ∙ ap (λ x. k ∷ wayOn (legIn n matrix) (n - (i + 1)) k (members (n - 1) (left - x))) (sym b) in
           record {
             long = length-set round i k ∙ g .long;
             here = c .below;

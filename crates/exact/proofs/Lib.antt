@@ -4,3 +4,5 @@ pub mod Rows
 pub mod Fills
 pub mod Choices
 pub mod Backs
+pub mod Numbers
+pub mod Solves

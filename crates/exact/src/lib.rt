@@ -3,7 +3,6 @@
 use legs::Stop;
 use legs::dist;
 use legs::wide;
-
 ghost use mathlib.Core.Path.{_≡_};
 ghost use Prim.Native.Nat.{_+_, _-_, _*_, _^_, _<_, _≤_};
 ghost use mathlib.Core.Bool.{_&&_};

@@ -160,8 +160,11 @@ in-known k (down h) = h
 pub plain-exact : (d : Legs) (n : ℕ) → 1 ≤ n → Exact d n (exactRound d n)
 unfolding exactRound
 plain-exact d n h =
-    let all = kept d (0 ∷ later n) (rounds n) (λ q k. let z = round-order n q h (in-round n q h k) in
-    rw (z .1) (more (order-first 1 (later n) (z .0) up (z .2))), rounds-sorted n) in
+    let all = kept d (0 ∷ later n) (rounds n) (
+      λ q k. let z = round-order n q h (in-round n q h k) in
+          rw (z .1) (more (order-first 1 (later n) (z .0) up (z .2))),
+      rounds-sorted n,
+    ) in
     rw (begins n h) (record {
       from-zero = in-round n (cheapestOf d (0 ∷ later n) (rounds n)) h (in-known (round-in n (0 ∷ later n) h (order-round n (later n) h (order-self 1 (later n) up))) (all .there));
       cheapest = λ q f. all .low q (down (round-in n q h f));
