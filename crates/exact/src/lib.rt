@@ -93,9 +93,9 @@ fn row_of(matrix: &[u16], n: usize, table: &[u32], s: usize) -> [u32; 24]
 }
 
 // Writes the first m words of a row where a part of the table begins.
-fn put_row(part: &mut [u32], row: [u32; 24], m: usize)
+fn put_row(part: &mut [u32], row: &[u32; 24], m: usize)
     requires { ⌜ (m ≤ 24) × (m ≤ length (now part)) ⌝ }
-    ensures { λ _. ⌜ Put (now (part .entry)) row m (now (part .exit)) ⌝ }
+    ensures { λ _. ⌜ Put (now (part .entry)) (now (row .entry)) m (now (part .exit)) ⌝ }
 {
     let mut i: usize = 0;
     while i < m {
@@ -115,7 +115,7 @@ fn fill(matrix: &[u16], n: usize, table: &mut [u32])
     while s < sets {
         let row = row_of(matrix, n, &table[..], s);
         let at = s * m;
-        put_row(&mut table[at..], row, m);
+        put_row(&mut table[at..], &row, m);
         s += 1;
     }
 }
