@@ -40,26 +40,25 @@ pub record Choosing (matrix : List Time) (n set : ℕ) (a k : Stop) (best : Time
   pub worth : best ≡ onBy matrix n set a k
   pub same : nearest (onBy matrix n set a) k (members (n - 1) left) ≡ firstBy (onBy matrix n set a) (members (n - 1) set)
 
-module _ (matrix : List Time) (n set : ℕ) (a : Stop) where
-  pub choosing-starts : set < 2 ^ (n - 1) → (k : Stop) → Lowest set k → (r : ℕ) → Rest set r → (time : Time) → Via matrix n set a k time
-      → Choosing matrix n set a k time r
-  unfolding firstBy
-  choosing-starts b k l r t time v =
-      record {
-        within = omega (arith, rest-less (n - 1) set k b l r t);
-        worth = v .is;
-        same = ap (λ x. nearest (onBy matrix n set a) k (members (n - 1) x)) (t .is k l) ∙ sym (ap (firstBy (onBy matrix n set a)) (opens (n - 1) set k b l));
-      }
+pub choosing-starts : {matrix : List Time} {n set : ℕ} {a k : Stop} → set < 2 ^ (n - 1) → Lowest set k → {r : ℕ} → Rest set r → {time : Time} → Via matrix n set a k time
+    → Choosing matrix n set a k time r
+unfolding firstBy
+choosing-starts {matrix} {n} {set} {a} {k} b l t v =
+    record {
+      within = omega (arith, rest-less (n - 1) b l t);
+      worth = v .is;
+      same = ap (λ x. nearest (onBy matrix n set a) k (members (n - 1) x)) (t .is k l) ∙ sym (ap (firstBy (onBy matrix n set a)) (opens (n - 1) b l));
+    }
 
-  module _ (k : Stop) (best : Time) (left : ℕ) (h : Choosing matrix n set a k best left)
-      (j : Stop) (l : Lowest left j) (r : ℕ) (t : Rest left r) (time : Time) (v : Via matrix n set a j time) where
+module _ {matrix : List Time} {n set : ℕ} {a k : Stop} {best : Time} {left : ℕ} (h : Choosing matrix n set a k best left) where
+  module _ {j : Stop} (l : Lowest left j) {r : ℕ} (t : Rest left r) {time : Time} (v : Via matrix n set a j time) where
     on : nearest (onBy matrix n set a) k (j ∷ members (n - 1) r) ≡ firstBy (onBy matrix n set a) (members (n - 1) set)
     on =
         ap (λ x. nearest (onBy matrix n set a) k (j ∷ members (n - 1) x)) (t .is j l)
-        ∙ sym (ap (nearest (onBy matrix n set a) k) (opens (n - 1) left j (h .within) l)) ∙ h .same
+        ∙ sym (ap (nearest (onBy matrix n set a) k) (opens (n - 1) (h .within) l)) ∙ h .same
 
     less : r < 2 ^ (n - 1)
-    less = omega (arith, h .within, rest-less (n - 1) left j (h .within) l r t)
+    less = omega (arith, h .within, rest-less (n - 1) (h .within) l t)
 
     pub choosing-near : time < best → Choosing matrix n set a j time r
     choosing-near near =
@@ -71,9 +70,9 @@ module _ (matrix : List Time) (n set : ℕ) (a : Stop) where
         let c : onBy matrix n set a k ≤ onBy matrix n set a j = omega (arith, v .is, h .worth) in
         record { within = less; worth = h .worth; same = sym (farther (onBy matrix n set a) k j (members (n - 1) r) c) ∙ on }
 
-  pub choosing-done : n ≤ 25 → set < 2 ^ (n - 1) → 0 < set → (k : Stop) (best : Time) (left : ℕ) → Choosing matrix n set a k best left → left ≡ 0 → Choice matrix n set a k
+  pub choosing-done : n ≤ 25 → set < 2 ^ (n - 1) → 0 < set → left ≡ 0 → Choice matrix n set a k
   unfolding nearest
-  choosing-done few b some k best left h z = subst (Choice matrix n set a) (sym is) chosen
+  choosing-done few b some z = subst (Choice matrix n set a) (sym is) chosen
     where
       l : List Stop
       l = members (n - 1) set

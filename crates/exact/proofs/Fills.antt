@@ -22,8 +22,8 @@ use Rattle.exact.specs.Inner.{Sized, Words, Row, Put}
 pub put-starts : (part row : List Time) → Put part row 0 part
 put-starts part row = record { long = refl; front = λ i h. absurd (omega arith); back = λ i h. refl }
 
-pub put-next : (part row : List Time) (j : ℕ) (out : List Time) → j < length part → Put part row j out → (v : Time) → v ≡ at row j → Put part row (j + 1) (set out j v)
-put-next part row j out l h v e =
+pub put-next : {part row : List Time} {j : ℕ} {out : List Time} → j < length part → Put part row j out → (v : Time) → v ≡ at row j → Put part row (j + 1) (set out j v)
+put-next {part} {row} {j} {out} l h v e =
     record {
       long = length-set out j v ∙ h .long;
       front = λ i b. go i b (decLt i j);
@@ -72,18 +72,18 @@ pub record Filling (matrix : List Time) (n : ℕ) (table₀ table : List Time) (
   pub words : Words matrix n table s
   pub beyond : (i : ℕ) → s * (n - 1) ≤ i → at table i ≡ at table₀ i
 
-module _ (matrix : List Time) (n : ℕ) (table₀ : List Time) (z : Sized n matrix table₀) where
+module _ {matrix : List Time} {n : ℕ} {table₀ : List Time} (z : Sized n matrix table₀) where
   pub fill-starts : Filling matrix n table₀ table₀ 0
   fill-starts = record { few = omega arith; long = refl; words = record { word = λ p k l. absurd (omega arith) }; beyond = λ i l. refl }
 
-  pub fill-done : (table : List Time) (s : ℕ) → Filling matrix n table₀ table s → s ≡ 2 ^ (n - 1) → table ≡ tableLeft n matrix table₀
+  pub fill-done : {table : List Time} {s : ℕ} → Filling matrix n table₀ table s → s ≡ 2 ^ (n - 1) → table ≡ tableLeft n matrix table₀
   unfolding tableLeft
-  fill-done table s f e =
+  fill-done {table} f e =
       table-is (legIn n matrix) (n - 1) table table₀ (f .long) (z .room)
       (λ p k l low high. f .words .word p k (omega arith) low (omega (arith, z .low)))
       (λ i l. f .beyond i (omega (arith, ap (λ x. x * (n - 1)) e)))
 
-  module _ (t : List Time) (s : ℕ) (f : Filling matrix n table₀ t s) (b : s < 2 ^ (n - 1)) where
+  module _ {t : List Time} {s : ℕ} (f : Filling matrix n table₀ t s) (b : s < 2 ^ (n - 1)) where
     -- the table is as large as it was, and the row ends within it
     pub still-sized : Sized n matrix t
     still-sized = record { low = z .low; high = z .high; square = z .square; room = omega (arith, f .long, z .room) }
@@ -91,9 +91,9 @@ module _ (matrix : List Time) (n : ℕ) (table₀ : List Time) (z : Sized n matr
     pub row-fits : s * (n - 1) + (n - 1) ≤ length t
     row-fits = omega (arith, mul-le-mul-right (n - 1) b, f .long, z .room)
 
-    pub fill-next : (row ys : List Time) → Row matrix n s row → Put (take (length t - s * (n - 1)) (drop (s * (n - 1)) t)) row (n - 1) ys
+    pub fill-next : {row ys : List Time} → Row matrix n s row → Put (take (length t - s * (n - 1)) (drop (s * (n - 1)) t)) row (n - 1) ys
         → Filling matrix n table₀ (putMid (s * (n - 1)) (length t - s * (n - 1)) t ys) (s + 1)
-    fill-next row ys o p =
+    fill-next {row} {ys} o p =
         record {
           few = omega arith;
           long = whole-length t ys a at-most same-long ∙ f .long;

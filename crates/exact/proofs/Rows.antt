@@ -27,70 +27,69 @@ pub record Rowing (matrix : List Time) (n s : ℕ) (row : List Time) (left : ℕ
   pub inside : (j : Stop) → member left j ≡ true → member s j ≡ true
   pub words : (j : Stop) → 1 ≤ j → j < n → at row (j - 1) ≡ (if member left j then unreached else tableWord (legIn n matrix) (n - 1) s j)
 
-module _ (matrix : List Time) (n s : ℕ) (few : n ≤ 25) where
-  pub rowing-starts : (row : List Time) → row ≡ replicate 24 2147483647 → s < 2 ^ (n - 1) → Rowing matrix n s row s
-  unfolding unreached
-  rowing-starts row blank b =
+pub rowing-starts : (matrix : List Time) (n s : ℕ) → n ≤ 25 → (row : List Time) → row ≡ replicate 24 2147483647 → s < 2 ^ (n - 1) → Rowing matrix n s row s
+unfolding unreached
+rowing-starts matrix n s few row blank b =
+    record {
+      within = b;
+      long = ap length blank;
+      inside = λ j h. h;
+      words = λ j low high. ap (λ (r : List Time). at r (j - 1)) blank ∙ getD-replicate 24 (j - 1) 2147483647 0 (omega arith)
+          ∙ either-if (λ (x : Time). 2147483647 ≡ x) (member s j) (λ e. refl) (λ e. sym (word-out (legIn n matrix) (n - 1) s j e));
+    }
+
+module _ {matrix : List Time} {n s : ℕ} {row : List Time} {left : ℕ} (h : Rowing matrix n s row left) {k : Stop} (l : Lowest left k) {later : ℕ} (t : Rest left later) where
+  bit : left - later ≡ 2 ^ (k - 1)
+  bit = omega (arith, t .is k l, member-fits left k (l .there))
+
+  -- the other stops of s are a smaller set
+  pub others-less : (s - (left - later) < s) × (left - later ≤ s)
+  others-less = omega (arith, bit, pow-pos (k - 1), member-fits s k (h .inside k (l .there)))
+
+  pub rowing-next : n ≤ 25 → k < n → (w : ℕ) → w ≡ k → (v : Time) → v ≡ onward (legIn n matrix) k (members (n - 1) (s - (left - later))) → Rowing matrix n s (set row (w - 1) v) later
+  rowing-next few below w e v o =
       record {
-        within = b;
-        long = ap length blank;
-        inside = λ j h. h;
-        words = λ j low high. ap (λ (r : List Time). at r (j - 1)) blank ∙ getD-replicate 24 (j - 1) 2147483647 0 (omega arith)
-            ∙ either-if (λ (x : Time). 2147483647 ≡ x) (member s j) (λ e. refl) (λ e. sym (word-out (legIn n matrix) (n - 1) s j e));
+        within = omega (arith, h .within, rest-less (n - 1) (h .within) l t);
+        long = length-set row (w - 1) v ∙ h .long;
+        inside = λ j z. h .inside j (stays j z);
+        words = λ j low high. elim (ℕ-discrete k j) [ yes q ↦ new j q | no ne ↦ old j low high ne ];
       }
+    where
+      gone : member later k ≡ false
+      gone = ap (λ x. member x k) (t .is k l) ∙ less-same left k (l .there)
 
-  module _ (row : List Time) (left : ℕ) (h : Rowing matrix n s row left) (k : Stop) (l : Lowest left k) (later : ℕ) (t : Rest left later) where
-    bit : left - later ≡ 2 ^ (k - 1)
-    bit = omega (arith, t .is k l, member-fits left k (l .there))
+      other : (j : Stop) → k ≢ j → member later j ≡ member left j
+      other j ne = ap (λ x. member x j) (t .is k l) ∙ less-other left k j (l .there) ne
 
-    -- the other stops of s are a smaller set
-    pub others-less : (s - (left - later) < s) × (left - later ≤ s)
-    others-less = omega (arith, bit, pow-pos (k - 1), member-fits s k (h .inside k (l .there)))
+      stays : (j : Stop) → member later j ≡ true → member left j ≡ true
+      stays j z =
+          elim (ℕ-discrete k j) [
+            | yes q ↦ absurd (true-false (sym z ∙ ap (member later) (sym q) ∙ gone))
+            | no ne ↦ sym (other j ne) ∙ z
+          ]
 
-    pub rowing-next : k < n → (w : ℕ) → w ≡ k → (v : Time) → v ≡ onward (legIn n matrix) k (members (n - 1) (s - (left - later))) → Rowing matrix n s (set row (w - 1) v) later
-    rowing-next below w e v o =
-        record {
-          within = omega (arith, h .within, rest-less (n - 1) left k (h .within) l later t);
-          long = length-set row (w - 1) v ∙ h .long;
-          inside = λ j z. h .inside j (stays j z);
-          words = λ j low high. elim (ℕ-discrete k j) [ yes q ↦ new j q | no ne ↦ old j low high ne ];
-        }
-      where
-        gone : member later k ≡ false
-        gone = ap (λ x. member x k) (t .is k l) ∙ less-same left k (l .there)
+      is-word : v ≡ tableWord (legIn n matrix) (n - 1) s k
+      is-word =
+          o ∙ ap (λ x. onward (legIn n matrix) k (members (n - 1) (s - x))) bit
+          ∙ ap (onward (legIn n matrix) k) (members-less s (n - 1) k (h .inside k (l .there)))
+          ∙ sym (word-in (legIn n matrix) (n - 1) s k (h .inside k (l .there)))
 
-        other : (j : Stop) → k ≢ j → member later j ≡ member left j
-        other j ne = ap (λ x. member x j) (t .is k l) ∙ less-other left k j (l .there) ne
+      new : (j : Stop) → k ≡ j → at (set row (w - 1) v) (j - 1) ≡ (if member later j then unreached else tableWord (legIn n matrix) (n - 1) s j)
+      new j q =
+          let p : j - 1 ≡ w - 1 = omega arith in
+          ap (at (set row (w - 1) v)) p ∙ getD-set-same row (w - 1) v 0 (omega (arith, h .long, l .low)) ∙ is-word
+          ∙ ap (tableWord (legIn n matrix) (n - 1) s) q
+          ∙ ap (λ (b : Bool). if b then unreached else tableWord (legIn n matrix) (n - 1) s j) (sym (ap (member later) (sym q) ∙ gone))
 
-        stays : (j : Stop) → member later j ≡ true → member left j ≡ true
-        stays j z =
-            elim (ℕ-discrete k j) [
-              | yes q ↦ absurd (true-false (sym z ∙ ap (member later) (sym q) ∙ gone))
-              | no ne ↦ sym (other j ne) ∙ z
-            ]
+      old : (j : Stop) → 1 ≤ j → j < n → k ≢ j → at (set row (w - 1) v) (j - 1) ≡ (if member later j then unreached else tableWord (legIn n matrix) (n - 1) s j)
+      old j low high ne =
+          let d : j - 1 ≢ w - 1 = omega (arith, l .low) in
+          getD-set-other row (w - 1) (j - 1) v 0 d ∙ h .words j low high
+          ∙ ap (λ (b : Bool). if b then unreached else tableWord (legIn n matrix) (n - 1) s j) (sym (other j ne))
 
-        is-word : v ≡ tableWord (legIn n matrix) (n - 1) s k
-        is-word =
-            o ∙ ap (λ x. onward (legIn n matrix) k (members (n - 1) (s - x))) bit
-            ∙ ap (onward (legIn n matrix) k) (members-less s (n - 1) k (h .inside k (l .there)))
-            ∙ sym (word-in (legIn n matrix) (n - 1) s k (h .inside k (l .there)))
-
-        new : (j : Stop) → k ≡ j → at (set row (w - 1) v) (j - 1) ≡ (if member later j then unreached else tableWord (legIn n matrix) (n - 1) s j)
-        new j q =
-            let p : j - 1 ≡ w - 1 = omega arith in
-            ap (at (set row (w - 1) v)) p ∙ getD-set-same row (w - 1) v 0 (omega (arith, h .long, l .low)) ∙ is-word
-            ∙ ap (tableWord (legIn n matrix) (n - 1) s) q
-            ∙ ap (λ (b : Bool). if b then unreached else tableWord (legIn n matrix) (n - 1) s j) (sym (ap (member later) (sym q) ∙ gone))
-
-        old : (j : Stop) → 1 ≤ j → j < n → k ≢ j → at (set row (w - 1) v) (j - 1) ≡ (if member later j then unreached else tableWord (legIn n matrix) (n - 1) s j)
-        old j low high ne =
-            let d : j - 1 ≢ w - 1 = omega (arith, l .low) in
-            getD-set-other row (w - 1) (j - 1) v 0 d ∙ h .words j low high
-            ∙ ap (λ (b : Bool). if b then unreached else tableWord (legIn n matrix) (n - 1) s j) (sym (other j ne))
-
-  pub rowing-done : (row : List Time) (left : ℕ) → Rowing matrix n s row left → left ≡ 0 → Row matrix n s row
-  rowing-done row left h z =
-      record {
-        word = λ k low high. h .words k low high
-            ∙ ap (λ (b : Bool). if b then unreached else tableWord (legIn n matrix) (n - 1) s k) (ap (λ x. member x k) z ∙ member-none k);
-      }
+pub rowing-done : {matrix : List Time} {n s : ℕ} {row : List Time} {left : ℕ} → Rowing matrix n s row left → left ≡ 0 → Row matrix n s row
+rowing-done {matrix} {n} {s} h z =
+    record {
+      word = λ k low high. h .words k low high
+          ∙ ap (λ (b : Bool). if b then unreached else tableWord (legIn n matrix) (n - 1) s k) (ap (λ x. member x k) z ∙ member-none k);
+    }

@@ -25,9 +25,9 @@ use Rattle.exact.specs.Inner.{Sized, Words, Walked, Ready}
 use Rattle.exact.specs.Promise.{Refused, Done, Solve}
 
 -- the table that is left has every word
-pub words-left : (matrix : List Time) (n : ℕ) (table₀ table : List Time) → 2 ≤ n → table ≡ tableLeft n matrix table₀ → Words matrix n table (2 ^ (n - 1))
+pub words-left : {matrix : List Time} {n : ℕ} (table₀ : List Time) {table : List Time} → 2 ≤ n → table ≡ tableLeft n matrix table₀ → Words matrix n table (2 ^ (n - 1))
 unfolding tableLeft
-words-left matrix n table₀ table two e =
+words-left {matrix} {n} table₀ two e =
     record {
       word = λ p k l low high.
           let c : k - 1 < n - 1 = omega arith in
@@ -52,10 +52,10 @@ module _ (matrix : List Time) (n : ℕ) (low : 1 ≤ n) (high : n ≤ 25) (small
   way-length : length way ≡ n - 1
   way-length = order-length 1 (up-rising (n - 1) 1) (way-is-first .order) ∙ rising-length (n - 1) 1
 
-  pub walked-done : 2 ≤ n → (table₀ table : List Time) (round : Round) (time : Time) → Walked matrix n round time → table ≡ tableLeft n matrix table₀
+  pub walked-done : 2 ≤ n → {table₀ table : List Time} {round : Round} {time : Time} → Walked matrix n round time → table ≡ tableLeft n matrix table₀
       → Done matrix n table₀ table round time
   unfolding way
-  walked-done two table₀ table round time w t =
+  walked-done two w t =
       record {
         exact = subst (Exact (legIn n matrix) n) (sym (w .goes)) (first-exact (legIn n matrix) n way low way-is-first);
         takes = w .takes ∙ sym (ap (recount (legIn n matrix)) (w .goes) ∙ recount-walk (legIn n matrix) way (omega (arith, way-length)));
