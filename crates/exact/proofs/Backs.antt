@@ -1,7 +1,6 @@
 -- The walk back through the table.
-use Prim.Native.Nat.{ℕ, zero, suc, _+_, _-_, _*_, _^_, _≤_, _<_}
-use mathlib.Core.Path.{_≡_, refl, sym, ap, subst, _∙_}
-use mathlib.Core.Bool.{true, false}
+use Prim.Native.Nat.{ℕ, suc, _+_, _-_, _*_, _^_, _≤_, _<_}
+use mathlib.Core.Path.{_≡_, refl, sym, ap, _∙_}
 use mathlib.Core.List.{List, [], _∷_, _++_, append-assoc, append-nil}
 use native.Mathlib.Numerals.{add-one}
 use native.Mathlib.Omega.{arith}
@@ -12,7 +11,7 @@ use Rattle.rules.specs.Words.{Stop, Time, Round, Legs}
 use Rattle.rules.specs.Lists.{rising}
 use Rattle.rules.specs.Ring.{along}
 use Rattle.rules.specs.Plan.{legIn}
-use Rattle.rules.specs.Table.{member, members}
+use Rattle.rules.specs.Table.{members}
 use Rattle.laws.proofs.EveryLaws.{rising-length}
 use Rattle.laws.proofs.InLaws.{length-without}
 use Rattle.laws.proofs.SetLaws.{in-members, member-fits, members-up, members-less, members-none, members-full}

@@ -1,18 +1,16 @@
 -- The lowest stop of a set, as the machine finds it and takes it out.
 use Prim.Native.Nat.{ℕ, zero, suc, _+_, _-_, _*_, _/_, _%_, _^_, _≤_, _<_, min}
-use mathlib.Core.Path.{_≡_, refl, sym, ap, subst, _∙_}
-use mathlib.Core.Bool.{true, false}
+use mathlib.Core.Path.{_≡_, refl, ap, _∙_}
+use mathlib.Core.Bool.{false}
 use native.Mathlib.Decide.{decLt}
 use native.Mathlib.Numerals.{add-one}
 use native.Mathlib.Omega.{arith}
 use lib.Bits.{bitAnd, and-step, and-self}
 use lib.Count.{trailingZeros, under}
-use lib.Dec.{eqb}
 use lib.Pow.{pow-mono, pow-pos}
 use borrow.Author.Tests.{eq-eqb, ne-eqb, eqb-false}
 use Rattle.rules.specs.Words.{Stop}
 use Rattle.rules.specs.Table.{member}
-use Rattle.laws.proofs.ChoiceLaws.{true-false}
 use Rattle.laws.proofs.SetLaws.{bit-half, off-fits, bit-set}
 use Rattle.exact.specs.Inner.{Lowest, Rest}
 
@@ -59,11 +57,11 @@ clear-below s i l zero b = refl
 clear-below s i l (suc j) b = ne-eqb (s / 2 ^ j % 2) 1 (omega (arith, l .clear j (omega arith)))
 
 -- the stop of the lowest bit
-pub lowest-is : (s : ℕ) → 0 < s → s < 16777216 → Lowest s (trailingZeros 64 s + 1)
+pub lowest-is : (s : ℕ) → 0 < s → s < 16777216 → (stop : Stop) → stop ≡ trailingZeros 64 s + 1 → Lowest s stop
 unfolding member
-lowest-is s h k =
+lowest-is s h k stop e =
     let l = trailing 64 s h (omega arith) in
-    rw (add-one (trailingZeros 64 s))
+    rw (e, add-one (trailingZeros 64 s))
     (record {
       low = omega arith;
       high = omega (arith, low-few s (trailingZeros 64 s) k l);

@@ -1,8 +1,7 @@
 -- A word of the table where it is read, and the scan of a set for the cheapest walk through it.
-use Prim.Native.Nat.{ℕ, zero, suc, _+_, _-_, _*_, _^_, _≤_, _<_, min}
-use mathlib.Core.Path.{_≡_, refl, sym, ap, subst, _∙_}
-use mathlib.Core.Bool.{true, false}
-use mathlib.Core.List.{List, [], _∷_}
+use Prim.Native.Nat.{ℕ, _+_, _-_, _*_, _^_, _≤_, _<_, min}
+use mathlib.Core.Path.{_≡_, refl, sym, ap, _∙_}
+use mathlib.Core.List.{List, _∷_}
 use native.Mathlib.Nat.{mul-le-mul}
 use native.Mathlib.Omega.{arith}
 use lib.Arith.{digits-lt}
@@ -13,7 +12,7 @@ use Rattle.rules.specs.Words.{Stop, Time}
 use Rattle.rules.specs.Lists.{at}
 use Rattle.rules.specs.Plan.{legIn}
 use Rattle.rules.specs.Contracts.{Square}
-use Rattle.rules.specs.Table.{member, members, unreached, tableWord}
+use Rattle.rules.specs.Table.{members, unreached, tableWord}
 use Rattle.laws.proofs.SetLaws.{members-first, members-none, member-below, member-fits}
 use Rattle.laws.proofs.OnwardLaws.{onward, onward-home, lowest}
 use Rattle.laws.proofs.TableLaws.{word-small, onward-row}
@@ -68,7 +67,7 @@ module _ (m : ℕ) {s : ℕ} {k : Stop} (b : s < 2 ^ m) (l : Lowest s k) where
 pub members-some : (m s : ℕ) → m ≤ 24 → s < 2 ^ m → 0 < s → 0 < length (members m s)
 members-some m s few b h =
     let f : s < 16777216 = omega (arith, pow-mono few) in
-    omega (arith, ap length (opens m b (lowest-is s h f)))
+    omega (arith, ap length (opens m b (lowest-is s h f (trailingZeros 64 s + 1) refl)))
 
 -- on from stop k by the stops of a set
 abbrev pub onBy : List Time → ℕ → ℕ → Stop → Stop → Time

@@ -1,14 +1,13 @@
 -- The scan of a set for the stop to go to.
-use Prim.Native.Nat.{ℕ, zero, suc, _+_, _-_, _*_, _^_, _≤_, _<_}
-use mathlib.Core.Path.{_≡_, refl, sym, ap, subst, _∙_}
-use mathlib.Core.Bool.{true, false}
+use Prim.Native.Nat.{ℕ, suc, _+_, _-_, _^_, _≤_, _<_}
+use mathlib.Core.Path.{_≡_, sym, ap, subst, _∙_}
 use mathlib.Core.List.{List, [], _∷_}
 use native.Mathlib.Omega.{arith}
 use lib.ListN.{length}
 use Rattle.rules.specs.Words.{Stop, Time, Legs}
 use Rattle.rules.specs.Plan.{legIn}
 use Rattle.rules.specs.Start.{nearest, without}
-use Rattle.rules.specs.Table.{member, members, tableWord}
+use Rattle.rules.specs.Table.{members}
 use Rattle.laws.proofs.InLaws.{In, Up}
 use Rattle.laws.proofs.SetLaws.{members-up, members-in, members-less, members-none}
 use Rattle.laws.proofs.OnwardLaws.{onward, Nearest, nearest-is, nearest-same, nearer, farther, wayOn}

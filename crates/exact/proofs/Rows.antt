@@ -1,9 +1,9 @@
 -- The scan of a set for its row.
-use Prim.Native.Nat.{ℕ, zero, suc, _+_, _-_, _*_, _^_, _≤_, _<_}
-use mathlib.Core.Path.{_≡_, refl, sym, ap, subst, _∙_}
+use Prim.Native.Nat.{ℕ, _-_, _^_, _≤_, _<_}
+use mathlib.Core.Path.{_≡_, refl, sym, ap, _∙_}
 use mathlib.Core.Logic.{_≢_}
 use mathlib.Core.Bool.{Bool, true, false}
-use mathlib.Core.List.{List, [], _∷_}
+use mathlib.Core.List.{List}
 use native.Mathlib.Decide.{ℕ-discrete}
 use native.Mathlib.Omega.{arith}
 use lib.ListN.{length, set, length-set, replicate, getD-replicate}
@@ -27,15 +27,15 @@ pub record Rowing (matrix : List Time) (n s : ℕ) (row : List Time) (left : ℕ
   pub inside : (j : Stop) → member left j ≡ true → member s j ≡ true
   pub words : (j : Stop) → 1 ≤ j → j < n → at row (j - 1) ≡ (if member left j then unreached else tableWord (legIn n matrix) (n - 1) s j)
 
-pub rowing-starts : (matrix : List Time) (n s : ℕ) → n ≤ 25 → (row : List Time) → row ≡ replicate 24 2147483647 → s < 2 ^ (n - 1) → Rowing matrix n s row s
+pub rowing-starts : (matrix : List Time) (n s : ℕ) → n ≤ 25 → s < 2 ^ (n - 1) → (blank : Time) → blank ≡ 2147483647 → Rowing matrix n s (replicate 24 blank) s
 unfolding unreached
-rowing-starts matrix n s few row blank b =
+rowing-starts matrix n s few b blank e =
     record {
       within = b;
-      long = ap length blank;
+      long = refl;
       inside = λ j h. h;
-      words = λ j low high. ap (λ (r : List Time). at r (j - 1)) blank ∙ getD-replicate 24 (j - 1) 2147483647 0 (omega arith)
-          ∙ either-if (λ (x : Time). 2147483647 ≡ x) (member s j) (λ e. refl) (λ e. sym (word-out (legIn n matrix) (n - 1) s j e));
+      words = λ j low high. getD-replicate 24 (j - 1) blank 0 (omega arith) ∙ e
+          ∙ either-if (λ (x : Time). 2147483647 ≡ x) (member s j) (λ z. refl) (λ z. sym (word-out (legIn n matrix) (n - 1) s j z));
     }
 
 module _ {matrix : List Time} {n s : ℕ} {row : List Time} {left : ℕ} (h : Rowing matrix n s row left) {k : Stop} (l : Lowest left k) {later : ℕ} (t : Rest left later) where

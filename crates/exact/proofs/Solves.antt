@@ -1,28 +1,26 @@
 -- The solver's answer: its round is the exact one, the table holds the rule's words; and the promise allows one answer.
-use Prim.Native.Nat.{ℕ, zero, suc, _+_, _-_, _*_, _^_, _≤_, _<_}
+use Prim.Native.Nat.{ℕ, _+_, _-_, _*_, _^_, _≤_, _<_}
 use mathlib.Core.Path.{_≡_, refl, sym, ap, subst, _∙_}
-use mathlib.Core.List.{List, [], _∷_, _++_}
+use mathlib.Core.List.{List, [], _∷_}
 use native.Mathlib.Decide.{ℕ-discrete}
-use native.Mathlib.Nat.{mul-le-mul-right}
 use native.Mathlib.Omega.{arith}
 use lib.Arith.{digits-lt}
 use lib.ListN.{length, set, drop, List·getD-append}
-use Rattle.rules.specs.Words.{Stop, Time, Round, Legs}
-use Rattle.rules.specs.Lists.{at, rising}
+use Rattle.rules.specs.Words.{Stop, Time, Round}
+use Rattle.rules.specs.Lists.{at}
 use Rattle.rules.specs.Ring.{lap, recount}
 use Rattle.rules.specs.Plan.{legIn}
 use Rattle.rules.specs.Exact.{Exact, exactRound}
 use Rattle.rules.specs.Table.{tableOf}
 use Rattle.rules.specs.Calls.{tableLeft}
-use Rattle.rules.specs.Numbers.{exactNumber}
 use Rattle.laws.proofs.EveryLaws.{rising-length}
 use Rattle.laws.proofs.InLaws.{up-rising}
 use Rattle.laws.proofs.OrderLaws.{order-length, later}
-use Rattle.laws.proofs.ExactLaws.{First, homeward, first-exact, recount-walk, exact-unique, plain-exact}
+use Rattle.laws.proofs.ExactLaws.{First, first-exact, recount-walk, exact-unique, plain-exact}
 use Rattle.laws.proofs.OnwardLaws.{wayOn, way-first}
 use Rattle.laws.proofs.TableLaws.{table-length, table-at, table-is}
-use Rattle.exact.specs.Inner.{Sized, Words, Walked, Ready}
-use Rattle.exact.specs.Promise.{Refused, Done, Solve}
+use Rattle.exact.specs.Inner.{Words, Walked}
+use Rattle.exact.specs.Promise.{Done, Solve}
 
 -- the table that is left has every word
 pub words-left : {matrix : List Time} {n : ℕ} (table₀ : List Time) {table : List Time} → 2 ≤ n → table ≡ tableLeft n matrix table₀ → Words matrix n table (2 ^ (n - 1))

@@ -1,7 +1,6 @@
 -- 01, 13: the exact round is one, and the plain walk over all orders gives it.
-use Prim.Native.Nat.{ℕ, zero, suc, _+_, _-_, _≤_, _<_}
+use Prim.Native.Nat.{ℕ, zero, suc, _-_, _≤_, _<_}
 use mathlib.Core.Path.{_≡_, refl, sym, ap, subst, _∙_}
-use mathlib.Core.Bool.{Bool, true, false}
 use mathlib.Core.List.{List, [], _∷_, _++_}
 use native.Mathlib.Decide.{ℕ-discrete, decLt}
 use native.Mathlib.Omega.{arith}
@@ -12,7 +11,7 @@ use Rattle.rules.specs.Words.{Stop, Time, Round, Legs}
 use Rattle.rules.specs.Lists.{if_then_else_, rising}
 use Rattle.rules.specs.Ring.{along, lap, recount}
 use Rattle.rules.specs.Start.{without}
-use Rattle.rules.specs.Exact.{Before, same, less, more, FromZero, Exact, rounds, cheapestOf, exactRound}
+use Rattle.rules.specs.Exact.{Before, same, less, more, Exact, rounds, cheapestOf, exactRound}
 use Rattle.laws.proofs.InLaws.{In, top, down, in-some, Up, up-rising, up-in, without-first}
 use Rattle.laws.proofs.OrderLaws.{Order, none, next, order-length, order-self, later, order-round, round-order, before-self, before-before, Sorted, round-in, in-round, rounds-sorted}
 

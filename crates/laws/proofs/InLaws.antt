@@ -139,10 +139,6 @@ up-in i u (down {y = y} h) = omega (arith, u .0, up-in (suc y) (u .1) h)
 
 -- ---- the stops but one
 module _ (v : Stop) where
-  pub in-without : {u : Stop} {l : List Stop} → In u l → u ≢ v → In u (without v l)
-  unfolding without
-  in-without {u} h ne = in-keep (λ w. not (eqb w v)) h (rw (ne-eqb u v ne))
-
   pub without-in : {u : Stop} (l : List Stop) → In u (without v l) → In u l × (u ≢ v)
   unfolding without
   without-in {u} l h = let r = keep-in (λ w. not (eqb w v)) l h in (r .0, eqb-false u v (not-true (eqb u v) (r .1)))

@@ -1,8 +1,8 @@
 -- 01, 13: what the cheapest walk on from a stop takes, found stop by stop, and the first of the cheapest walks.
-use Prim.Native.Nat.{ℕ, zero, suc, _+_, _-_, _*_, _≤_, _<_, min}
+use Prim.Native.Nat.{ℕ, zero, suc, _+_, _*_, _≤_, _<_, min}
 use mathlib.Core.Path.{_≡_, refl, sym, ap, subst, _∙_}
-use mathlib.Core.Logic.{_⊎_, inl, inr, ⊎-elim, _≢_}
-use mathlib.Core.Bool.{Bool, true, false}
+use mathlib.Core.Logic.{_⊎_, inl, inr}
+use mathlib.Core.Bool.{Bool}
 use mathlib.Core.List.{List, [], _∷_, _++_, map}
 use native.Mathlib.Decide.{ℕ-discrete, decLe, decLt}
 use native.Mathlib.Nat.{mul-le-mul-right}
@@ -11,14 +11,14 @@ use lib.Dec.{ltb}
 use lib.ListN.{length}
 use borrow.Author.Tests.{lt-ltb, le-ltb}
 use Rattle.rules.specs.Words.{Stop, Time, Legs}
-use Rattle.rules.specs.Lists.{if_then_else_, rising, each}
+use Rattle.rules.specs.Lists.{if_then_else_, each}
 use Rattle.rules.specs.Ring.{along}
 use Rattle.rules.specs.Start.{nearest, without}
 use Rattle.rules.specs.Exact.{Before, same, less, more, orders}
 use Rattle.rules.specs.Table.{unreached, leastOf}
 use Rattle.laws.proofs.ChoiceLaws.{either-way}
-use Rattle.laws.proofs.InLaws.{In, top, down, in-some, Up, up-lower, up-in, up-without, length-without}
-use Rattle.laws.proofs.OrderLaws.{Order, none, next, order-length, order-self, order-in, in-order}
+use Rattle.laws.proofs.InLaws.{In, top, down, in-some, Up, up-lower, up-without, length-without}
+use Rattle.laws.proofs.OrderLaws.{Order, none, next, order-self, order-in, in-order}
 use Rattle.laws.proofs.ExactLaws.{homeward, First}
 
 -- what the cheapest walk from stop k through the stops of l and home takes
@@ -86,10 +86,6 @@ module _ (d : Legs) where
       go _ (inr z) = inr (z .0, down (z .1), z .2)
 
   -- ---- the cheapest walk on, stop by stop
-  pub onward-small : (k : Stop) (l : List Stop) → onward d k l ≤ unreached
-  unfolding onward
-  onward-small k l = least-low k unreached (orders (length l) l)
-
   pub onward-home : (k : Stop) → d k 0 ≤ unreached → onward d k [] ≡ d k 0
   unfolding onward orders leastOf along unreached
   onward-home k h = omega arith

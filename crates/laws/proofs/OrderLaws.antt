@@ -1,8 +1,8 @@
 -- 01, 13: the orders of a list of stops are its permutations, in dictionary order; behind stop 0 they are the rounds from stop 0.
 use Prim.Native.Nat.{ℕ, zero, suc, _+_, _-_, _≤_, _<_}
-use mathlib.Core.Path.{_≡_, refl, sym, ap, subst, _∙_}
+use mathlib.Core.Path.{_≡_, refl, sym, ap, subst}
 use mathlib.Core.Logic.{_⊎_, inl, inr, ⊎-elim, _≢_}
-use mathlib.Core.Bool.{Bool, true, false, not, _&&_}
+use mathlib.Core.Bool.{true}
 use mathlib.Core.List.{List, [], _∷_, _++_, map}
 use native.Mathlib.Decide.{ℕ-discrete}
 use native.Mathlib.Omega.{arith}
@@ -10,13 +10,13 @@ use lib.Dec.{eqb}
 use lib.ListN.{length}
 use borrow.Author.Tests.{eq-eqb, ne-eqb, eqb-true}
 use Rattle.rules.specs.Words.{Stop, Round}
-use Rattle.rules.specs.Lists.{at, rising, each, keep, every, one, tally}
+use Rattle.rules.specs.Lists.{rising, each, keep, every, one, tally}
 use Rattle.rules.specs.Ring.{isRound}
 use Rattle.rules.specs.Start.{without}
 use Rattle.rules.specs.Exact.{Before, same, less, more, FromZero, orders, rounds}
 use Rattle.laws.proofs.ChoiceLaws.{and-true}
 use Rattle.laws.proofs.EveryLaws.{every-rising, rising-every, rising-length}
-use Rattle.laws.proofs.InLaws.{In, top, down, in-some, in-either, in-map, map-in, in-each, each-in, in-rising, rising-in, Up, up-rising, up-in, in-without, without-in, up-without, without-same, without-other, without-first, length-without}
+use Rattle.laws.proofs.InLaws.{In, top, down, in-some, in-either, in-map, map-in, in-each, each-in, in-rising, rising-in, Up, up-rising, up-in, without-in, up-without, without-same, without-other, without-first, length-without}
 
 -- o goes through each of l once
 pub data Order : List Stop → List Stop → Type 0 where

@@ -1,8 +1,8 @@
 -- 01, 13: the sets of stops as numbers, a bit for each stop.
-use Prim.Native.Nat.{ℕ, zero, suc, _+_, _-_, _*_, _/_, _%_, _^_, _≤_, _<_}
-use mathlib.Core.Path.{_≡_, refl, sym, ap, subst, _∙_}
-use mathlib.Core.Logic.{_⊎_, inl, inr, ⊎-elim, _≢_}
-use mathlib.Core.Bool.{Bool, true, false, not}
+use Prim.Native.Nat.{ℕ, zero, suc, _-_, _/_, _%_, _^_, _≤_, _<_}
+use mathlib.Core.Path.{_≡_, refl, sym, ap, _∙_}
+use mathlib.Core.Logic.{_≢_}
+use mathlib.Core.Bool.{true, false}
 use mathlib.Core.List.{List, [], _∷_}
 use native.Mathlib.Decide.{ℕ-discrete, decLe}
 use native.Mathlib.Nat.{div-div-eq-div-mul, pow-succ'}
@@ -10,13 +10,13 @@ use native.Mathlib.Omega.{arith}
 use lib.Dec.{eqb}
 use lib.ListN.{length}
 use lib.Pow.{pow-pos, pow-mono}
-use borrow.Author.Tests.{eq-eqb, ne-eqb, eqb-true, eqb-false}
+use borrow.Author.Tests.{eq-eqb, ne-eqb, eqb-true}
 use Rattle.rules.specs.Words.{Stop}
 use Rattle.rules.specs.Lists.{rising, keep}
 use Rattle.rules.specs.Start.{without}
 use Rattle.rules.specs.Table.{member, members}
 use Rattle.laws.proofs.ChoiceLaws.{either-if, true-false}
-use Rattle.laws.proofs.InLaws.{In, top, down, in-keep, keep-in, keep-yes, keep-no, keep-few, keep-none, keep-all, in-rising, rising-in, Up, up-rising, up-raise, up-keep, without-same, without-other, opens}
+use Rattle.laws.proofs.InLaws.{In, in-keep, keep-in, keep-yes, keep-no, keep-few, keep-none, keep-all, in-rising, rising-in, Up, up-rising, up-raise, up-keep, without-same, without-other, opens}
 use Rattle.laws.proofs.EveryLaws.{rising-length}
 
 -- the bit above the lowest is a bit of the half

@@ -1,18 +1,18 @@
 -- 01, 13: the words of the subset table, each by the words of a smaller set, and the table as a whole.
 use Prim.Native.Nat.{ℕ, zero, suc, _+_, _-_, _*_, _/_, _%_, _^_, _≤_, _<_}
-use mathlib.Core.Path.{_≡_, refl, sym, ap, subst, _∙_}
-use mathlib.Core.Bool.{Bool, true, false}
+use mathlib.Core.Path.{_≡_, refl, sym, ap, _∙_}
+use mathlib.Core.Bool.{true, false}
 use mathlib.Core.List.{List, [], _∷_, _++_, map}
 use native.Mathlib.Decide.{decLt}
 use native.Mathlib.Nat.{div-add-mod', div-lt-iff-lt-mul, mod-lt}
 use native.Mathlib.Omega.{arith}
-use lib.ListN.{length, getD, drop, length-append, length-drop, length-map, List·getD-append}
+use lib.ListN.{length, drop, length-append, length-drop, length-map, List·getD-append}
 use lib.Seq.{ext-getD, getD-append-add, getD-drop}
 use Rattle.rules.specs.Words.{Stop, Time, Legs}
-use Rattle.rules.specs.Lists.{if_then_else_, at, rising, each}
+use Rattle.rules.specs.Lists.{at, rising, each}
 use Rattle.rules.specs.Start.{without}
 use Rattle.rules.specs.Exact.{orders}
-use Rattle.rules.specs.Table.{member, members, unreached, leastOf, tableWord, tableOf}
+use Rattle.rules.specs.Table.{member, members, unreached, tableWord, tableOf}
 use Rattle.laws.proofs.ChoiceLaws.{either-way}
 use Rattle.laws.proofs.EveryLaws.{rising-length, rising-at}
 use Rattle.laws.proofs.InLaws.{In, up-without, length-without}

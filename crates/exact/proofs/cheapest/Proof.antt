@@ -1,6 +1,5 @@
-use Prim.Native.Nat.{ℕ, _+_, _-_, _*_, _^_, _≤_, _<_}
+use Prim.Native.Nat.{_-_}
 use mathlib.Core.Logic.{⊎-elim}
-use mathlib.Core.Path.{refl}
 use native.Mathlib.Omega.{arith}
 use Rattle.exact.proofs.Cells.{square, sets-few, lowest-below, rest-less, Scan, scan-starts, scan-next, scan-done, home}
 use Rattle.exact.proofs.cheapest.Statement.{statement}
@@ -20,12 +19,12 @@ dist-requires c κs =
 returns : tie.Need-returns Inv-loop μ-loop
 returns c =
     let s = c .before .before .before .before in
-    home (s .args .matrix .now) (s .args .n) (s .args .set) (s .args .k .0) (c .before .if1 .taken) (c .dist .result) (cc (c .dist .ensures .is)) (c .dist .ensures .small)
+    home (s .args .matrix .now) (s .args .n) (s .args .set) (s .args .k .0) (c .before .if1 .taken) (c .dist .result) (omega (arith, c .dist .ensures .is)) (c .dist .ensures .small)
 
 loop-holds : tie.Need-loop-holds Inv-loop μ-loop
 loop-holds c =
     let s = c .before .before .before in
-    scan-starts (s .args .matrix .now) (s .args .n) (s .args .set) (s .args .k .0) (s .pre .1 .0 .0) _ refl
+    scan-starts (s .args .matrix .now) (s .args .n) (s .args .set) (s .args .k .0) (s .pre .1 .0 .0) _ (omega arith)
 
 lowest-requires : tie.Need-lowest-requires Inv-loop μ-loop
 lowest-requires c κs =

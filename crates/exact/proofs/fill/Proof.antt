@@ -1,5 +1,4 @@
-use Prim.Native.Nat.{ℕ, _+_, _-_, _*_, _^_, _≤_, _<_}
-use mathlib.Core.Path.{_≡_}
+use Prim.Native.Nat.{_+_, _-_, _*_, _^_, _≤_, _<_}
 use native.Mathlib.Omega.{arith}
 use lib.ListN.{length, length-take, length-drop}
 use Rattle.exact.specs.Inner.{Sized}

@@ -1,12 +1,9 @@
-use Prim.Native.Nat.{_+_, _*_, _<_, _≤_, _^_}
 use native.Mathlib.Omega.{arith}
 use mathlib.Core.Path.{_∙_}
 use lib.Pow.{shl-exact}
 use borrow.Author.Needs.{needs}
 use Rattle.exact.proofs.power.Statement.{statement}
 use Rattle.exact.proofs.power.Tie as tie
-use Rattle.exact.proofs.power.Reads as reads
-use Rattle.exact.proofs.power.Lts as lts
 
 shl-result : tie.Need-shl-result
 shl-result c = search needs

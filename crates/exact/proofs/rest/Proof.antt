@@ -2,8 +2,6 @@ use borrow.Author.Needs.{needs}
 use Rattle.exact.proofs.Bits.{rest-is}
 use Rattle.exact.proofs.rest.Statement.{statement}
 use Rattle.exact.proofs.rest.Tie as tie
-use Rattle.exact.proofs.rest.Reads as reads
-use Rattle.exact.proofs.rest.Lts as lts
 
 sub-result : tie.Need-sub-result
 sub-result c = search needs

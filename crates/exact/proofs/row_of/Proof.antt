@@ -1,5 +1,4 @@
-use Prim.Native.Nat.{ℕ, _+_, _-_, _*_, _^_, _≤_, _<_}
-use mathlib.Core.Path.{refl}
+use Prim.Native.Nat.{_+_, _-_}
 use native.Mathlib.Omega.{arith}
 use Rattle.exact.proofs.Cells.{sets-few, words-fewer, lowest-below, rest-less}
 use Rattle.exact.proofs.Rows.{Rowing, rowing-starts, rowing-next, rowing-done, others-less}
@@ -15,7 +14,7 @@ abbrev μ-loop : tie.MeasureT-loop
 loop-holds : tie.Need-loop-holds Inv-loop μ-loop
 loop-holds c =
     let s = c .before .before in
-    rowing-starts (s .args .matrix .now) (s .args .n) (s .args .s) (s .pre .0 .high) _ refl (s .pre .1 .0)
+    rowing-starts (s .args .matrix .now) (s .args .n) (s .args .s) (s .pre .0 .high) (s .pre .1 .0) _ (omega arith)
 
 lowest-requires : tie.Need-lowest-requires Inv-loop μ-loop
 lowest-requires c κs =

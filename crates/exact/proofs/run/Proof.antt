@@ -14,7 +14,7 @@ same-length c = search needs
 returns : tie.Need-returns
 returns c =
     let s = c .before .before .before .before in
-    alone-done (s .args .matrix .now) (s .args .n) (s .pre .low) (s .pre .high) (λ i. omega (arith, c .before .before .before .shared-slice-known .given i)) (c .if1 .taken) (s .args .table .now) (s .args .round .now) (s .pre .long)
+    alone-done (s .args .matrix .now) (s .args .n) (s .pre .low) (s .pre .high) (λ i. omega (arith, c .before .before .before .shared-slice-known .given i)) (omega (arith, c .if1 .taken)) (s .args .table .now) (s .args .round .now) (s .pre .long)
 
 fill-requires : tie.Need-fill-requires
 fill-requires c κs = search needs

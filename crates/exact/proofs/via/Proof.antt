@@ -1,4 +1,3 @@
-use Prim.Native.Nat.{ℕ, _+_, _-_, _*_, _^_, _≤_, _<_}
 use native.Mathlib.Omega.{arith}
 use borrow.Author.Needs.{needs}
 use Rattle.exact.proofs.Cells.{square, row-few, cell-within, cell-small, via-is}
@@ -47,7 +46,7 @@ add-result c =
 returns : tie.Need-returns
 returns c =
     let s = c .before .before .before .before .before in
-    via-is (s .pre .0) (s .args .set) (s .pre .1 .0 .0) (s .pre .1 .1) (s .args .j .0) (s .pre .1 .0 .2) (s .pre .1 .0 .3) (c .before .before .wide .result) (c .before .before .wide .ensures) (s .args .a .0) (c .before .dist .result) (cc (c .before .dist .ensures .is)) (c .before .dist .ensures .small)
+    via-is (s .pre .0) (s .args .set) (s .pre .1 .0 .0) (s .pre .1 .1) (s .args .j .0) (s .pre .1 .0 .2) (s .pre .1 .0 .3) (c .before .before .wide .result) (c .before .before .wide .ensures) (s .args .a .0) (c .before .dist .result) (omega (arith, c .before .dist .ensures .is)) (c .before .dist .ensures .small)
 
 pub via-spec : {M : Type 1} → statement M
 via-spec =

@@ -1,5 +1,5 @@
-use Prim.Native.Nat.{ℕ, _+_, _-_, _*_, _^_, _≤_, _<_}
-use mathlib.Core.Path.{_≡_, refl, sym, ap, _∙_}
+use Prim.Native.Nat.{_+_, _-_, _^_}
+use mathlib.Core.Path.{_≡_, sym, ap, _∙_}
 use native.Mathlib.Omega.{arith}
 use lib.Pow.{pow-pos}
 use Rattle.exact.proofs.Cells.{square, words-fewer}
@@ -98,7 +98,7 @@ loop-less c =
 
 loop-again : tie.Need-loop-again Inv-loop μ-loop
 loop-again c =
-    going-next (c .before .before .before .before .before .loop .inv) (c .before .before .before .choose .ensures) (c .power2 .result) (bit c) (c .before .before .dist .result) (cc (c .before .before .dist .ensures .is)) (c .before .before .dist .ensures .small) _ refl
+    going-next (c .before .before .before .before .before .loop .inv) (c .before .before .before .choose .ensures) (c .power2 .result) (bit c) (c .before .before .dist .result) (omega (arith, c .before .before .dist .ensures .is)) (c .before .before .dist .ensures .small) _ (omega arith)
 
 dist-requires-2 : tie.Need-dist-requires-2 Inv-loop μ-loop
 dist-requires-2 c κs =
