@@ -1,31 +1,22 @@
 -- The walk back through the table.
 use Prim.Native.Nat.{ℕ, suc, _+_, _-_, _*_, _^_, _≤_, _<_}
-use mathlib.Core.Path.{_≡_, refl, sym, ap, _∙_}
+use mathlib.Core.Path.{_≡_, sym, ap, _∙_}
 use mathlib.Core.List.{List, [], _∷_, _++_, append-assoc, append-nil}
 use native.Mathlib.Numerals.{add-one}
 use native.Mathlib.Omega.{arith}
 use lib.ListN.{length, set, take, length-set}
 use lib.Pow.{pow-pos}
 use lib.Seq.{take-suc-set, take-all}
-use Rattle.rules.specs.Words.{Stop, Time, Round, Legs}
+use Rattle.rules.specs.Words.{Stop, Time, Round}
 use Rattle.rules.specs.Lists.{rising}
-use Rattle.rules.specs.Ring.{along}
 use Rattle.rules.specs.Plan.{legIn}
 use Rattle.rules.specs.Table.{members}
 use Rattle.laws.proofs.EveryLaws.{rising-length}
 use Rattle.laws.proofs.InLaws.{length-without}
 use Rattle.laws.proofs.SetLaws.{in-members, member-fits, members-up, members-less, members-none, members-full}
-use Rattle.laws.proofs.ExactLaws.{homeward}
+use Rattle.laws.proofs.ExactLaws.{homeward, homeward-on, homeward-none}
 use Rattle.laws.proofs.OnwardLaws.{wayOn}
 use Rattle.exact.specs.Inner.{Choice, Walked}
-
-ahead : (d : Legs) (a v : Stop) (o : List Stop) → homeward d a (v ∷ o) ≡ d a v + homeward d v o
-unfolding homeward along
-ahead d a v o = refl
-
-homes : (d : Legs) (a : Stop) → d a 0 ≡ homeward d a []
-unfolding homeward along
-homes d a = omega arith
 
 -- i stops of the round are there, `last` the last of them, and the stops of `left` are still to be visited
 pub record Going (matrix : List Time) (n : ℕ) (round : Round) (left : ℕ) (last : Stop) (time : Time) (i : ℕ) : Type 0 where
@@ -85,7 +76,7 @@ module _ {matrix : List Time} {n : ℕ} {round : Round} {left : ℕ} {last : Sto
           done = g .done ++ (k ∷ []);
           so = rw (add-one i) (take-suc-set round i written (omega (arith, g .long)) ∙ ap (λ (v : Stop). take i round ++ (v ∷ [])) w ∙ ap (λ (r : Round). r ++ (k ∷ [])) (g .so));
           goes = append-assoc (g .done) (k ∷ []) p ∙ sym (ap (λ (r : List Stop). g .done ++ r) on) ∙ g .goes;
-          adds = omega (arith, is, g .adds, ap (homeward (legIn n matrix) last) on, ahead (legIn n matrix) last k p);
+          adds = omega (arith, is, g .adds, ap (homeward (legIn n matrix) last) on, homeward-on (legIn n matrix) last k p);
         }
 
   pub going-done : left ≡ 0 → (total : Time) → total ≡ time + legIn n matrix last 0 → Walked matrix n round total
@@ -98,5 +89,5 @@ module _ {matrix : List Time} {n : ℕ} {round : Round} {left : ℕ} {last : Sto
       record {
         goes = sym (take-all i round (omega (arith, g .long))) ∙ g .so
             ∙ ap (λ (r : List Stop). 0 ∷ r) (sym (append-nil (g .done)) ∙ sym (ap (λ (r : List Stop). g .done ++ r) over) ∙ g .goes);
-        takes = e ∙ ap (λ x. time + x) (homes (legIn n matrix) last) ∙ sym (ap (λ (r : List Stop). time + homeward (legIn n matrix) last r) over) ∙ g .adds;
+        takes = e ∙ ap (λ x. time + x) (sym (homeward-none (legIn n matrix) last)) ∙ sym (ap (λ (r : List Stop). time + homeward (legIn n matrix) last r) over) ∙ g .adds;
       }

@@ -1,5 +1,5 @@
 -- 01, 13: the exact round is one, and the plain walk over all orders gives it.
-use Prim.Native.Nat.{ℕ, zero, suc, _-_, _≤_, _<_}
+use Prim.Native.Nat.{ℕ, zero, suc, _+_, _-_, _≤_, _<_}
 use mathlib.Core.Path.{_≡_, refl, sym, ap, subst, _∙_}
 use mathlib.Core.List.{List, [], _∷_, _++_}
 use native.Mathlib.Decide.{ℕ-discrete, decLt}
@@ -34,6 +34,15 @@ exact-unique {d} {r = r} {q = q} x y =
 unfoldable pub homeward : Legs → Stop → List Stop → Time
 unfolding along
 homeward d a o = along d a (o ++ (0 ∷ []))
+
+module _ (d : Legs) (a : Stop) where
+  pub homeward-on : (v : Stop) (o : List Stop) → homeward d a (v ∷ o) ≡ d a v + homeward d v o
+  unfolding homeward along
+  homeward-on v o = refl
+
+  pub homeward-none : homeward d a [] ≡ d a 0
+  unfolding homeward along
+  homeward-none = omega arith
 
 -- o is the first, in dictionary order, of the cheapest walks from a through each of l and home
 pub record First (d : Legs) (a : Stop) (l o : List Stop) : Type 0 where

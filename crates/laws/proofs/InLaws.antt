@@ -173,8 +173,8 @@ module _ (v : Stop) where
       ap suc (length-without (suc y) (u .1) h) ∙ ap (λ (r : List Stop). suc (length r)) (sym (without-other y l (λ e. omega arith)))
 
 -- the least of a list that rises stands first
-pub opens : (k : Stop) (l : List Stop) → Up k l → In k l → l ≡ k ∷ without k l
-opens k (x ∷ l) u h =
+pub least-first : (k : Stop) (l : List Stop) → Up k l → In k l → l ≡ k ∷ without k l
+least-first k (x ∷ l) u h =
     elim (ℕ-discrete x k) [
       | yes e ↦ ap (λ (v : Stop). v ∷ l) e ∙ ap (λ (r : List Stop). k ∷ r) (sym (without-same k x l e ∙ without-above k (suc x) l (u .1) (omega arith)))
       | no ne ↦ absurd (ne (heads h))
@@ -182,4 +182,4 @@ opens k (x ∷ l) u h =
   where
     heads : In k (x ∷ l) → x ≡ k
     heads h = omega (arith, u .0, up-in x (omega arith, u .1) h)
-opens k [] u h = absurd (omega (arith, in-some h))
+least-first k [] u h = absurd (omega (arith, in-some h))

@@ -19,7 +19,7 @@ use Rattle.rules.specs.Table.{unreached, leastOf}
 use Rattle.laws.proofs.ChoiceLaws.{either-way}
 use Rattle.laws.proofs.InLaws.{In, top, down, in-some, Up, up-lower, up-without, length-without}
 use Rattle.laws.proofs.OrderLaws.{Order, none, next, order-self, order-in, in-order}
-use Rattle.laws.proofs.ExactLaws.{homeward, First}
+use Rattle.laws.proofs.ExactLaws.{homeward, homeward-on, First}
 
 -- what the cheapest walk from stop k through the stops of l and home takes
 unfoldable pub onward : Legs → Stop → List Stop → Time
@@ -245,25 +245,21 @@ begins h (next {v = v} {o = o} z k) = (v, o, refl, z, k)
 -- one stop on: w is the first by which the cheapest walk goes, and p the first of the cheapest on from there
 module _ (d : Legs) (a : Stop) (l : List Stop) (some : 0 < length l) (all : (v : Stop) → In v l → Least d v (without v l) (onward d v (without v l)))
     (w : Stop) (n : Nearest (λ v. d a v + onward d v (without v l)) l w) (p : List Stop) (f : First d w (without w l) p) where
-  ahead : (v : Stop) (o : List Stop) → homeward d a (v ∷ o) ≡ d a v + homeward d v o
-  unfolding homeward along
-  ahead v o = refl
-
   takes : homeward d w p ≡ onward d w (without w l)
   takes =
       let z = all w (n .there) in
       omega (arith, z .least p (f .order), f .cheapest (z .way) (z .order), z .takes)
 
   step-low : (v : Stop) (o : List Stop) → In v l → Order (without v l) o → homeward d a (w ∷ p) ≤ homeward d a (v ∷ o)
-  step-low v o h k = omega (arith, ahead w p, ahead v o, takes, n .low v h, all v h .least o k)
+  step-low v o h k = omega (arith, homeward-on d a w p, homeward-on d a v o, takes, n .low v h, all v h .least o k)
 
   step-first : (v : Stop) (o : List Stop) → In v l → Order (without v l) o → homeward d a (v ∷ o) ≡ homeward d a (w ∷ p) → Before (w ∷ p) (v ∷ o)
   step-first v o h k e =
-      let tie : d a v + onward d v (without v l) ≡ d a w + onward d w (without w l) = omega (arith, ahead w p, ahead v o, takes, n .low v h, all v h .least o k) in
+      let tie : d a v + onward d v (without v l) ≡ d a w + onward d w (without w l) = omega (arith, homeward-on d a w p, homeward-on d a v o, takes, n .low v h, all v h .least o k) in
       elim (ℕ-discrete w v) [
         | yes q ↦
             let on : Order (without w l) o = subst (λ (x : Stop). Order (without x l) o) (sym q) k in
-            let same-rest : homeward d w o ≡ homeward d w p = omega (arith, ahead w p, ahead w o, ap (λ x. homeward d a (x ∷ o)) q) in
+            let same-rest : homeward d w o ≡ homeward d w p = omega (arith, homeward-on d a w p, homeward-on d a w o, ap (λ x. homeward d a (x ∷ o)) q) in
             subst (λ (x : Stop). Before (w ∷ p) (x ∷ o)) q (more (f .first o on same-rest))
         | no ne ↦ let z : w < v = omega (arith, n .first v h tie) in less z
       ]

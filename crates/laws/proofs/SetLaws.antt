@@ -16,7 +16,7 @@ use Rattle.rules.specs.Lists.{rising, keep}
 use Rattle.rules.specs.Start.{without}
 use Rattle.rules.specs.Table.{member, members}
 use Rattle.laws.proofs.ChoiceLaws.{either-if, true-false}
-use Rattle.laws.proofs.InLaws.{In, in-keep, keep-in, keep-yes, keep-no, keep-few, keep-none, keep-all, in-rising, rising-in, Up, up-rising, up-raise, up-keep, without-same, without-other, opens}
+use Rattle.laws.proofs.InLaws.{In, in-keep, keep-in, keep-yes, keep-no, keep-few, keep-none, keep-all, in-rising, rising-in, Up, up-rising, up-raise, up-keep, without-same, without-other, least-first}
 use Rattle.laws.proofs.EveryLaws.{rising-length}
 
 -- the bit above the lowest is a bit of the half
@@ -129,7 +129,7 @@ module _ (s : ℕ) where
   pub members-first : (m : ℕ) (k : Stop) → 1 ≤ k → k ≤ m → member s k ≡ true → ((j : Stop) → j < k → member s j ≡ false)
       → members m s ≡ k ∷ members m (s - bitOf k)
   members-first m k low high h first =
-      opens k (members m s) (up-raise 1 k (members m s) (members-up m) least) (in-members m k low high h)
+      least-first k (members m s) (up-raise 1 k (members m s) (members-up m) least) (in-members m k low high h)
       ∙ ap (λ (r : List Stop). k ∷ r) (sym (members-less m k h))
     where
       least : (v : Stop) → In v (members m s) → k ≤ v

@@ -38,8 +38,7 @@ via-requires c κs =
     (s .pre .0, ((s .pre .1 .0 .0, s .pre .1 .0 .1, j .low, omega (arith, s .pre .0 .low, lowest-below (s .args .n - 1) (c .before .before .loop .inv .within) j)), s .pre .1 .1))
 
 rest-requires : tie.Need-rest-requires Inv-loop μ-loop
-rest-requires c κs =
-    omega (arith, c .before .before .before .loop-test .taken)
+rest-requires c κs = omega (arith, c .before .before .before .loop-test .taken)
 
 loop-less : tie.Need-loop-less Inv-loop μ-loop
 loop-less c =

@@ -45,8 +45,7 @@ via-requires-2 c κs =
     (s .pre .0, ((s .pre .1 .0 .1, s .pre .1 .0 .2, j .low, omega (arith, s .pre .0 .low, lowest-below (s .args .n - 1) (c .before .before .loop .inv .within) j)), s .pre .1 .1))
 
 rest-requires-2 : tie.Need-rest-requires-2 Inv-loop μ-loop
-rest-requires-2 c κs =
-    omega (arith, c .before .before .before .loop-test .taken)
+rest-requires-2 c κs = omega (arith, c .before .before .before .loop-test .taken)
 
 loop-less : tie.Need-loop-less Inv-loop μ-loop
 loop-less c =

@@ -47,24 +47,19 @@ row-of-requires c κs =
     (i .1, (i .0, c .before .before .loop .inv .words))
 
 mul-at : tie.Need-mul-at Inv-loop μ-loop
-mul-at c =
-    omega (arith, inside (c .before .before))
+mul-at c = omega (arith, inside (c .before .before))
 
 mul-put-row : tie.Need-mul-put-row Inv-loop μ-loop
-mul-put-row c =
-    omega (arith, inside (c .before .before))
+mul-put-row c = omega (arith, inside (c .before .before))
 
 sub-put-row : tie.Need-sub-put-row Inv-loop μ-loop
-sub-put-row c =
-    omega (arith, inside (c .before .before))
+sub-put-row c = omega (arith, inside (c .before .before))
 
 part-put-row-start : tie.Need-part-put-row-start Inv-loop μ-loop
-part-put-row-start c =
-    omega (arith, inside (c .before .before))
+part-put-row-start c = omega (arith, inside (c .before .before))
 
 part-put-row-end : tie.Need-part-put-row-end Inv-loop μ-loop
-part-put-row-end c =
-    omega (arith, inside (c .before .before))
+part-put-row-end c = omega (arith, inside (c .before .before))
 
 put-row-requires : tie.Need-put-row-requires Inv-loop μ-loop
 put-row-requires c κs =
@@ -72,12 +67,10 @@ put-row-requires c κs =
     (omega (arith, s .pre .high), simp (length-take, length-drop) (omega (arith, inside (c .before .before .before .before))))
 
 add-s : tie.Need-add-s Inv-loop μ-loop
-add-s c =
-    omega arith
+add-s c = omega arith
 
 loop-less : tie.Need-loop-less Inv-loop μ-loop
-loop-less c =
-    omega arith
+loop-less c = omega arith
 
 loop-again : tie.Need-loop-again Inv-loop μ-loop
 loop-again c =
@@ -85,8 +78,7 @@ loop-again c =
     fill-next (s .pre) (c .before .before .before .before .before .before .before .before .loop .inv) (inside (c .before .before .before .before .before .before .before) .0) (c .before .before .before .before .before .row-of .ensures) (c .before .before .put-row .ensures)
 
 same-length : tie.Need-same-length Inv-loop μ-loop
-same-length c =
-    c .before .loop .inv .long
+same-length c = c .before .loop .inv .long
 
 returns : tie.Need-returns Inv-loop μ-loop
 returns c =

@@ -6,8 +6,7 @@ use Rattle.exact.proofs.lengths_number.Statement.{statement}
 use Rattle.exact.proofs.lengths_number.Tie as tie
 
 mul-if1 : tie.Need-mul-if1
-mul-if1 c =
-    omega (arith, words-few (c .args .n) (c .pre) .0)
+mul-if1 c = omega (arith, words-few (c .args .n) (c .pre) .0)
 
 returns : tie.Need-returns
 returns c =

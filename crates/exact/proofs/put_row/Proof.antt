@@ -13,40 +13,31 @@ abbrev μ-loop : tie.MeasureT-loop
 μ-loop part₀ row m i₀ part i = m - i
 
 loop-holds : tie.Need-loop-holds Inv-loop μ-loop
-loop-holds c =
-    (omega arith, put-starts _ _)
+loop-holds c = (omega arith, put-starts _ _)
 
 mul-part : tie.Need-mul-part Inv-loop μ-loop
-mul-part c =
-    omega arith
+mul-part c = omega arith
 
 element-copy-out-part : tie.Need-element-copy-out-part Inv-loop μ-loop
-element-copy-out-part c =
-    omega arith
+element-copy-out-part c = omega arith
 
 mul-part-2 : tie.Need-mul-part-2 Inv-loop μ-loop
-mul-part-2 c =
-    omega arith
+mul-part-2 c = omega arith
 
 slice-write-part : tie.Need-slice-write-part Inv-loop μ-loop
-slice-write-part c =
-    omega (arith, c .before .before .loop .inv .1 .long)
+slice-write-part c = omega (arith, c .before .before .loop .inv .1 .long)
 
 add-i : tie.Need-add-i Inv-loop μ-loop
-add-i c =
-    omega arith
+add-i c = omega arith
 
 loop-less : tie.Need-loop-less Inv-loop μ-loop
-loop-less c =
-    omega arith
+loop-less c = omega arith
 
 loop-again : tie.Need-loop-again Inv-loop μ-loop
-loop-again c =
-    (omega arith, put-next (omega arith) (c .before .before .loop .inv .1) _ refl)
+loop-again c = (omega arith, put-next (omega arith) (c .before .before .loop .inv .1) _ refl)
 
 same-length : tie.Need-same-length Inv-loop μ-loop
-same-length c =
-    c .before .loop .inv .1 .long
+same-length c = c .before .loop .inv .1 .long
 
 returns : tie.Need-returns Inv-loop μ-loop
 returns c =

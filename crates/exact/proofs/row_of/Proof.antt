@@ -22,16 +22,13 @@ lowest-requires c κs =
     (omega (arith, c .loop-test .taken), omega (arith, c .before .loop .inv .within, sets-few (s .args .n) (s .pre .0 .high)))
 
 rest-requires : tie.Need-rest-requires Inv-loop μ-loop
-rest-requires c κs =
-    omega (arith, c .before .loop-test .taken)
+rest-requires c κs = omega (arith, c .before .loop-test .taken)
 
 wide-requires : tie.Need-wide-requires Inv-loop μ-loop
-wide-requires c κs =
-    tt
+wide-requires c κs = tt
 
 sub-i : tie.Need-sub-i Inv-loop μ-loop
-sub-i c =
-    omega (arith, c .wide .ensures, c .before .before .lowest .ensures .low)
+sub-i c = omega (arith, c .wide .ensures, c .before .before .lowest .ensures .low)
 
 sub-cheapest : tie.Need-sub-cheapest Inv-loop μ-loop
 sub-cheapest c =
@@ -39,8 +36,7 @@ sub-cheapest c =
     omega (arith, rest-less (s .args .n - 1) (c .before .before .before .before .loop .inv .within) (c .before .before .lowest .ensures) (c .before .rest .ensures))
 
 sub-cheapest-2 : tie.Need-sub-cheapest-2 Inv-loop μ-loop
-sub-cheapest-2 c =
-    others-less (c .before .before .before .before .loop .inv) (c .before .before .lowest .ensures) (c .before .rest .ensures) .1
+sub-cheapest-2 c = others-less (c .before .before .before .before .loop .inv) (c .before .before .lowest .ensures) (c .before .rest .ensures) .1
 
 cheapest-requires : tie.Need-cheapest-requires Inv-loop μ-loop
 cheapest-requires c κs =
@@ -51,12 +47,10 @@ cheapest-requires c κs =
     (s .pre .0, ((omega (arith, o .0, s .pre .1 .0), omega (arith, s .pre .0 .low, lowest-below (s .args .n - 1) (l .inv .within) k)), words-fewer (s .args .s - (l .left - c .before .rest .result) + 1) (omega (arith, o .0)) (s .pre .1 .1)))
 
 mul-row : tie.Need-mul-row Inv-loop μ-loop
-mul-row c =
-    omega (arith, c .before .wide .ensures, c .before .before .before .lowest .ensures .high)
+mul-row c = omega (arith, c .before .wide .ensures, c .before .before .before .lowest .ensures .high)
 
 array-write-row : tie.Need-array-write-row Inv-loop μ-loop
-array-write-row c =
-    omega (arith, c .before .wide .ensures, c .before .before .before .lowest .ensures .high)
+array-write-row c = omega (arith, c .before .wide .ensures, c .before .before .before .lowest .ensures .high)
 
 loop-less : tie.Need-loop-less Inv-loop μ-loop
 loop-less c =
@@ -71,8 +65,7 @@ loop-again c =
     rowing-next (l .inv) k (c .before .before .rest .ensures) (s .pre .0 .high) (omega (arith, s .pre .0 .low, lowest-below (s .args .n - 1) (l .inv .within) k)) (c .before .wide .result) (c .before .wide .ensures) (c .cheapest .result) (c .cheapest .ensures)
 
 returns : tie.Need-returns Inv-loop μ-loop
-returns c =
-    rowing-done (c .before .loop .inv) (c .loop-test .left)
+returns c = rowing-done (c .before .loop .inv) (c .loop-test .left)
 
 pub row-of-spec : {M : Type 1} → statement M
 row-of-spec =

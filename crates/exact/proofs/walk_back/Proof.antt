@@ -67,12 +67,10 @@ slice-write-round-2 c =
     omega (arith, l .inv .long, going-in (l .inv) (c .before .choose .ensures))
 
 wide-requires : tie.Need-wide-requires Inv-loop μ-loop
-wide-requires c κs =
-    tt
+wide-requires c κs = tt
 
 sub-power-2 : tie.Need-sub-power-2 Inv-loop μ-loop
-sub-power-2 c =
-    omega (arith, c .wide .ensures, c .before .before .choose .ensures .low)
+sub-power-2 c = omega (arith, c .wide .ensures, c .before .before .choose .ensures .low)
 
 power-requires-2 : tie.Need-power-requires-2 Inv-loop μ-loop
 power-requires-2 c κs =
@@ -84,8 +82,7 @@ bit : (c : tie.After-power2 Inv-loop μ-loop) → c .power2 .result ≡ 2 ^ (c .
 bit c = c .power2 .ensures ∙ ap (λ x. 2 ^ (x - 1)) (c .before .wide .ensures)
 
 sub-left-2 : tie.Need-sub-left-2 Inv-loop μ-loop
-sub-left-2 c =
-    omega (arith, bit c, going-in (c .before .before .before .before .before .loop .inv) (c .before .before .before .choose .ensures))
+sub-left-2 c = omega (arith, bit c, going-in (c .before .before .before .before .before .loop .inv) (c .before .before .before .choose .ensures))
 
 add-i : tie.Need-add-i Inv-loop μ-loop
 add-i c =
@@ -93,8 +90,7 @@ add-i c =
     omega (arith, s .pre .0 .high, going-in (c .before .before .before .before .before .loop .inv) (c .before .before .before .choose .ensures))
 
 loop-less : tie.Need-loop-less Inv-loop μ-loop
-loop-less c =
-    omega (arith, bit c, going-in (c .before .before .before .before .before .loop .inv) (c .before .before .before .choose .ensures))
+loop-less c = omega (arith, bit c, going-in (c .before .before .before .before .before .loop .inv) (c .before .before .before .choose .ensures))
 
 loop-again : tie.Need-loop-again Inv-loop μ-loop
 loop-again c =
@@ -117,8 +113,7 @@ same-length c =
     c .before .before .loop .inv .long ∙ sym (s .pre .1 .0)
 
 returns : tie.Need-returns Inv-loop μ-loop
-returns c =
-    going-done (c .before .before .loop .inv) (c .before .loop-test .left) _ (omega (arith, c .dist2 .ensures .is))
+returns c = going-done (c .before .before .loop .inv) (c .before .loop-test .left) _ (omega (arith, c .dist2 .ensures .is))
 
 pub walk-back-spec : {M : Type 1} → statement M
 walk-back-spec =
