@@ -1,25 +1,19 @@
--- 01, 13: the exact round is one.
-use Prim.Native.Nat.{_-_, _<_, _≤_, suc, zero, ℕ}
-use mathlib.Core.Path.{_≡_, ap, refl, subst, sym}
-use mathlib.Core.Logic.{_≢_}
-use mathlib.Core.Bool.{true}
-use mathlib.Core.List.{List, [], _∷_, map}
-use native.Mathlib.Decide.{decLt}
-use native.Mathlib.Nat.{le-refl}
+-- 01, 13: the exact round is one, and the plain walk over all orders gives it.
+use Prim.Native.Nat.{ℕ, zero, suc, _+_, _-_, _≤_, _<_}
+use mathlib.Core.Path.{_≡_, refl, sym, ap, subst, _∙_}
+use mathlib.Core.List.{List, [], _∷_, _++_}
+use native.Mathlib.Decide.{ℕ-discrete, decLt}
 use native.Mathlib.Omega.{arith}
 use lib.Dec.{ltb}
 use lib.ListN.{length}
-use borrow.Author.Tests.{ltb-false, ltb-true}
-use Rattle.rules.specs.Exact.{Before, Exact, FromZero, cheapestOf, exactRound, less, more, orders, rounds, same}
-use Rattle.rules.specs.Lists.{if_then_else_, one, rising, tally}
-use Rattle.rules.specs.Ring.{isRound, recount}
-use Rattle.rules.specs.Words.{Legs, Round, Stop}
-use Rattle.laws.proofs.ChoiceLaws.{either-if, either-way}
-use Rattle.laws.proofs.EveryLaws.{All, all-both, all-image}
-use Rattle.laws.proofs.OrderLaws.{Chain, In, Same, all-in, chain-map, in-map, later, link, orders-all, orders-chain, orders-length, orders-same, rising-up, up-first}
-use Rattle.laws.proofs.PermLaws.{round-is, round-length, round-perm}
-use Rattle.laws.proofs.RisingLaws.{rising-beyond, rising-length, rising-once, zero-rising}
-use Rattle.laws.proofs.TallyLaws.{one-other}
+use borrow.Author.Tests.{lt-ltb, le-ltb}
+use Rattle.rules.specs.Words.{Stop, Time, Round, Legs}
+use Rattle.rules.specs.Lists.{if_then_else_, rising}
+use Rattle.rules.specs.Ring.{along, lap, recount}
+use Rattle.rules.specs.Start.{without}
+use Rattle.rules.specs.Exact.{Before, same, less, more, Exact, rounds, cheapestOf, exactRound}
+use Rattle.laws.proofs.InLaws.{In, top, down, in-some, Up, up-rising, up-in, without-first}
+use Rattle.laws.proofs.OrderLaws.{Order, none, next, order-length, order-self, later, order-round, round-order, before-self, before-before, Sorted, round-in, in-round, rounds-sorted}
 
 -- of two lists of which each stands before the other, or is it, both are one
 pub before-both : {p q : List Stop} → Before p q → Before q p → p ≡ q
@@ -35,122 +29,155 @@ exact-unique {d} {r = r} {q = q} x y =
     let e : recount d q ≡ recount d r = omega (arith, x .cheapest q (y .from-zero), y .cheapest r (x .from-zero)) in
     before-both (x .first q (y .from-zero) e) (y .first r (x .from-zero) (sym e))
 
--- ---- the plain walk finds it
-before-refl : (p : List Stop) → Before p p
-before-refl [] = same
-before-refl (a ∷ p) = Before.more (before-refl p)
+-- ---- the same of a walk from any stop
+-- what a walk from stop a takes that goes through o in order and home to stop 0
+unfoldable pub homeward : Legs → Stop → List Stop → Time
+unfolding along
+homeward d a o = along d a (o ++ (0 ∷ []))
+
+module _ (d : Legs) (a : Stop) where
+  pub homeward-on : (v : Stop) (o : List Stop) → homeward d a (v ∷ o) ≡ d a v + homeward d v o
+  unfolding homeward along
+  homeward-on v o = refl
+
+  pub homeward-none : homeward d a [] ≡ d a 0
+  unfolding homeward along
+  homeward-none = omega arith
+
+-- o is the first, in dictionary order, of the cheapest walks from a through each of l and home
+pub record First (d : Legs) (a : Stop) (l o : List Stop) : Type 0 where
+  pub order : Order l o
+  pub cheapest : (q : List Stop) → Order l q → homeward d a o ≤ homeward d a q
+  pub first : (q : List Stop) → Order l q → homeward d a q ≡ homeward d a o → Before o q
 
 module _ (d : Legs) where
-  -- what is found is what was so far, or cheaper
-  data Found (so res : Round) : Type 0 where
-    stays : res ≡ so → Found so res
-    falls : recount d res < recount d so → Found so res
+  -- rounds of as many stops compare as their walks do
+  round-le : (o p : List Stop) → length o ≡ length p → homeward d 0 o ≤ homeward d 0 p → recount d (0 ∷ o) ≤ recount d (0 ∷ p)
+  unfolding recount lap homeward
+  round-le [] [] e h = omega arith
+  round-le [] (y ∷ p) e h = absurd (omega arith)
+  round-le (x ∷ o) [] e h = absurd (omega arith)
+  round-le (x ∷ o) (y ∷ p) e h = h
 
-  found : (so : Round) (rs : List Round) → Found so (cheapestOf d so rs)
-  unfolding cheapestOf
-  found so [] = stays refl
-  found so (r ∷ rs) =
-      either-if (λ (next : Round). Found next (cheapestOf d next rs) → Found so (cheapestOf d next rs)) (ltb (recount d r) (recount d so))
-      (λ y. cheaper (ltb-true (recount d r) (recount d so) y))
-      (λ y f. f)
-      (found (if ltb (recount d r) (recount d so) then r else so) rs)
+  round-tie : (o p : List Stop) → length o ≡ length p → recount d (0 ∷ p) ≡ recount d (0 ∷ o) → (homeward d 0 p ≡ homeward d 0 o → Before o p) → Before o p
+  unfolding recount lap homeward
+  round-tie [] [] e t h = same
+  round-tie [] (y ∷ p) e t h = absurd (omega arith)
+  round-tie (x ∷ o) [] e t h = absurd (omega arith)
+  round-tie (x ∷ o) (y ∷ p) e t h = h t
+
+  pub recount-walk : (o : List Stop) → 0 < length o → recount d (0 ∷ o) ≡ homeward d 0 o
+  unfolding recount lap homeward
+  recount-walk [] h = absurd (omega arith)
+  recount-walk (x ∷ o) h = refl
+
+  pub first-exact : (n : ℕ) (o : List Stop) → 1 ≤ n → First d 0 (later n) o → Exact d n (0 ∷ o)
+  first-exact n o h f =
+      record {
+        from-zero = order-round n o h (f .order);
+        cheapest = λ q k. let z = round-order n q h k in
+            rw (z .1) (round-le o (z .0) (long (z .0) (z .2)) (f .cheapest (z .0) (z .2)));
+        first = λ q k e. let z = round-order n q h k in
+            rw (z .1) (more (round-tie o (z .0) (long (z .0) (z .2)) (subst (λ (r : Round). recount d r ≡ recount d (0 ∷ o)) (z .1) e) (f .first (z .0) (z .2))));
+      }
     where
-      cheaper : recount d r < recount d so → Found r (cheapestOf d r rs) → Found so (cheapestOf d r rs)
-      cheaper h (stays e) = falls (omega (arith, ap (recount d) e))
-      cheaper h (falls k) = falls (omega arith)
+      long : (p : List Stop) → Order (later n) p → length o ≡ length p
+      long p k = order-length 1 (up-rising (n - 1) 1) (f .order) ∙ sym (order-length 1 (up-rising (n - 1) 1) k)
 
-  never-more : (so : Round) (rs : List Round) → recount d (cheapestOf d so rs) ≤ recount d so
-  never-more so rs = go (cheapestOf d so rs) (found so rs)
+-- ---- the plain walk
+-- r is one of rs, none of them is cheaper, and none as cheap stands before it
+record Kept (d : Legs) (rs : List Round) (r : Round) : Type 0 where
+  there : In r rs
+  low : (q : Round) → In q rs → recount d r ≤ recount d q
+  tie : (q : Round) → In q rs → recount d q ≡ recount d r → Before r q
+
+module _ (d : Legs) where
+  kept-one : (so : Round) → Kept d (so ∷ []) so
+  kept-one so = record { there = top; low = lo; tie = ti }
     where
-      go : (res : Round) → Found so res → recount d res ≤ recount d so
-      go res (stays e) = omega (arith, ap (recount d) e)
-      go res (falls h) = omega arith
+      lo : (q : Round) → In q (so ∷ []) → recount d so ≤ recount d q
+      lo q top = omega arith
+      lo q (down h) = absurd (omega (arith, in-some h))
 
-  -- none is cheaper
-  abbrev Cheapest : Round → List Round → Type 0
-  Cheapest res qs = All (λ q. recount d res ≤ recount d q) qs
+      ti : (q : Round) → In q (so ∷ []) → recount d q ≡ recount d so → Before so q
+      ti q top e = before-self so
+      ti q (down h) e = absurd (omega (arith, in-some h))
 
-  none-cheaper : (so : Round) (rs : List Round) → Cheapest (cheapestOf d so rs) (so ∷ rs)
-  unfolding cheapestOf
-  none-cheaper so [] = All.more (le-refl (recount d so)) All.none
-  none-cheaper so (r ∷ rs) =
-      either-if (λ (best : Round). Cheapest (cheapestOf d best rs) (best ∷ rs) → Cheapest (cheapestOf d best rs) (so ∷ r ∷ rs)) (ltb (recount d r) (recount d so))
-      (λ y a. let h : recount d r < recount d so = ltb-true (recount d r) (recount d so) y in let k : recount d (cheapestOf d r rs) ≤ recount d so = omega (arith, never-more r rs) in All.more k a)
-      (λ y. over (ltb-false (recount d r) (recount d so) y))
-      (none-cheaper (if ltb (recount d r) (recount d so) then r else so) rs)
+  -- r was kept of those from q on, and q is cheaper than `so`
+  kept-later : (so q : Round) (rs : List Round) (r : Round) → recount d q < recount d so → Kept d (q ∷ rs) r → Kept d (so ∷ q ∷ rs) r
+  kept-later so q rs r l k = record { there = down (k .there); low = lo; tie = ti }
     where
-      over : recount d so ≤ recount d r → Cheapest (cheapestOf d so rs) (so ∷ rs) → Cheapest (cheapestOf d so rs) (so ∷ r ∷ rs)
-      over h (All.more b a) = let k : recount d (cheapestOf d so rs) ≤ recount d r = omega arith in All.more b (All.more k a)
+      lo : (x : Round) → In x (so ∷ q ∷ rs) → recount d r ≤ recount d x
+      lo x top = omega (arith, k .low q top)
+      lo x (down h) = k .low x h
 
-  -- of those as cheap, none stands before it
-  abbrev Firsts : Round → List Round → Type 0
-  Firsts res qs = All (λ q. recount d q ≡ recount d res → Before res q) qs
+      ti : (x : Round) → In x (so ∷ q ∷ rs) → recount d x ≡ recount d r → Before r x
+      ti x top e = absurd (omega (arith, k .low q top))
+      ti x (down h) e = k .tie x h e
 
-  firsts-over : (so r : Round) (rs : List Round) → recount d so ≤ recount d r → Before so r → Firsts (cheapestOf d so rs) (so ∷ rs) → Firsts (cheapestOf d so rs) (so ∷ r ∷ rs)
-  firsts-over so r rs h b (All.more f a) = All.more f (All.more (λ e. go (cheapestOf d so rs) (found so rs) e) a)
+  -- r was kept of `so` and those after q, and q is no cheaper than `so`
+  kept-sooner : (so q : Round) (rs : List Round) (r : Round) → recount d so ≤ recount d q → Before so q → Kept d (so ∷ rs) r → Kept d (so ∷ q ∷ rs) r
+  kept-sooner so q rs r l b k = record { there = put (k .there); low = lo; tie = ti }
     where
-      go : (res : Round) → Found so res → recount d r ≡ recount d res → Before res r
-      go res (stays q) e = subst (λ z. Before z r) (sym q) b
-      go res (falls k) e = absurd (omega arith)
+      put : {x s : Round} → In x (s ∷ rs) → In x (s ∷ q ∷ rs)
+      put top = top
+      put (down h) = down (down h)
 
-  stands-first : (so : Round) (rs : List Round) → Chain (so ∷ rs) → Firsts (cheapestOf d so rs) (so ∷ rs)
+      lo : (x : Round) → In x (so ∷ q ∷ rs) → recount d r ≤ recount d x
+      lo x top = k .low so top
+      lo x (down top) = omega (arith, k .low so top)
+      lo x (down (down h)) = k .low x (down h)
+
+      ti : (x : Round) → In x (so ∷ q ∷ rs) → recount d x ≡ recount d r → Before r x
+      ti x top e = k .tie so top e
+      ti x (down top) e = before-before (k .tie so top (omega (arith, k .low so top))) b
+      ti x (down (down h)) e = k .tie x (down h) e
+
+  kept : (so : Round) (rs : List Round) → Sorted (so ∷ rs) → Kept d (so ∷ rs) (cheapestOf d so rs)
   unfolding cheapestOf
-  stands-first so [] (link h c) = All.more (λ e. before-refl so) All.none
-  stands-first so (r ∷ rs) (link (All.more b h) (link k c)) =
-      either-if (λ (best : Round). Firsts (cheapestOf d best rs) (best ∷ rs) → Firsts (cheapestOf d best rs) (so ∷ r ∷ rs)) (ltb (recount d r) (recount d so))
-      (λ y a. let l : recount d r < recount d so = ltb-true (recount d r) (recount d so) y in All.more (λ e. absurd (omega (arith, never-more r rs))) a)
-      (λ y a. firsts-over so r rs (ltb-false (recount d r) (recount d so) y) b a)
-      (either-way (λ (best : Round). Firsts (cheapestOf d best rs) (best ∷ rs)) (ltb (recount d r) (recount d so)) (stands-first r rs (link k c)) (stands-first so rs (link h c)))
+  kept so [] s = kept-one so
+  kept so (q ∷ rs) s = go (decLt (recount d q) (recount d so)) (kept q rs (s .1)) (kept so rs (λ x h. s .0 x (down h), s .1 .1))
+    where
+      go : Dec (recount d q < recount d so) → Kept d (q ∷ rs) (cheapestOf d q rs) → Kept d (so ∷ rs) (cheapestOf d so rs)
+          → Kept d (so ∷ q ∷ rs) (cheapestOf d (if ltb (recount d q) (recount d so) then q else so) rs)
+      go (yes l) k k′ = rw (lt-ltb (recount d q) (recount d so) l) (kept-later so q rs (cheapestOf d q rs) l k)
+      go (no l) k k′ = rw (le-ltb (recount d q) (recount d so) (omega arith)) (kept-sooner so q rs (cheapestOf d so rs) (omega arith) (s .0 q top) k′)
 
-  one-of : (P : Round → Type 0) (so : Round) (rs : List Round) → P so → All P rs → P (cheapestOf d so rs)
-  unfolding cheapestOf
-  one-of P so [] h All.none = h
-  one-of P so (r ∷ rs) h (All.more k a) = one-of P (if ltb (recount d r) (recount d so) then r else so) rs (either-way P (ltb (recount d r) (recount d so)) k h) a
-
--- ---- the rounds from stop 0 are the orders of the others, with 0 before them
-zero-then : (n : ℕ) (o : List Stop) → 1 ≤ n → Same o (rising (n - 1) 1) → length o ≡ n - 1 → FromZero n (0 ∷ o)
-unfolding tally
-zero-then n o pos s e = record { zero-first = refl; each-once = round-is n (0 ∷ o) (omega arith) (λ v h. omega (arith, s v, zero-rising n v pos h)) }
-
-others : (n : ℕ) (x : Stop) (o : List Stop) → 1 ≤ n → isRound n (x ∷ o) ≡ true → x ≡ 0 → Same o (rising (n - 1) 1)
-unfolding tally
-others n x o pos e z u =
-    let p = round-perm n (x ∷ o) e in
-    let l = round-length n (x ∷ o) e in
-    let i : one x u ≡ one 0 u = ap (λ w. one w u) z in
-    elim (decLt u n) [
-      | yes h ↦ omega (arith, p.once u, p.has u (omega arith), zero-rising n u pos h)
-      | no h ↦ (let ne : 0 ≢ u = omega arith in elim (decLt 0 (tally (x ∷ o) u)) [ yes k ↦ absurd (h (omega (arith, p.only u k))) | no k ↦ omega (arith, one-other ne, rising-beyond (n - 1) 1 u (omega arith)) ])
+-- the stops in rising order stand before every other order
+order-first : (i : ℕ) (l o : List Stop) → Up i l → Order l o → Before l o
+order-first i [] [] u none = same
+order-first i [] (v ∷ o) u (next h k) = absurd (omega (arith, in-some h))
+order-first i (x ∷ l) (v ∷ o) u (next h k) =
+    elim (ℕ-discrete x v) [
+      | yes e ↦
+          let z : Order l o = subst (λ (r : List Stop). Order r o) (ap (λ (w : Stop). without w (x ∷ l)) (sym e) ∙ without-first x l (u .1)) k in
+          subst (λ (w : Stop). Before (x ∷ l) (w ∷ o)) e (more (order-first (suc x) l o (u .1) z))
+      | no ne ↦ let z : x < v = omega (arith, up-in x (omega arith, u .1) h) in less z
     ]
 
-then-zero : (n : ℕ) (q : Round) → 1 ≤ n → FromZero n q → In q (rounds n)
-unfolding rounds
-then-zero n [] pos h = absurd (omega (arith, round-length n [] h.each-once))
-then-zero n (x ∷ o) pos h =
-    let l = rising (n - 1) 1 in
-    let i : In o (orders (n - 1) l) = orders-all (n - 1) l o (rising-length (n - 1) 1) (rising-once (n - 1) 1) (others n x o pos h.each-once h.zero-first) in
-    subst (λ v. In (v ∷ o) (map (λ o. 0 ∷ o) (orders (n - 1) l))) (sym h.zero-first) (in-map (λ o. 0 ∷ o) o (orders (n - 1) l) i)
-
-first-is : (n : ℕ) → 1 ≤ n → rising n 0 ≡ 0 ∷ rising (n - 1) 1
+begins : (n : ℕ) → 1 ≤ n → rising n 0 ≡ 0 ∷ later n
 unfolding rising
-first-is zero h = absurd (omega arith)
-first-is (suc m) h = let e : m ≡ suc m - 1 = omega arith in ap (λ k. 0 ∷ rising k 1) e
+begins zero h = absurd (omega arith)
+begins (suc n) h = let e : n ≡ suc n - 1 = omega arith in ap (λ (k : ℕ). 0 ∷ rising k 1) e
 
--- the walk over all orders gives the exact round
-pub exact-is : (d : Legs) (n : ℕ) → 1 ≤ n → Exact d n (exactRound d n)
-unfolding exactRound rounds
-exact-is d n pos =
-    let l = rising (n - 1) 1 in
-    let os = orders (n - 1) l in
-    let so = rising n 0 in
-    let rs = map (λ o. 0 ∷ o) os in
-    let same-all : All (λ o. Same o l) os = orders-same (n - 1) l (rising-length (n - 1) 1) (rising-once (n - 1) 1) in
-    let chain : Chain (so ∷ rs) = link (subst (λ z. All (Before z) rs) (sym (first-is n pos)) (all-image {P = λ o. Same o l} (λ o. 0 ∷ o) os (λ o s. Before.more (up-first l o (rising-up (n - 1) 1) s)) same-all))
-    (chain-map 0 os (orders-chain (n - 1) l (rising-up (n - 1) 1))) in
-    let from-first : FromZero n so = subst (FromZero n) (sym (first-is n pos)) (zero-then n l pos (λ u. refl) (rising-length (n - 1) 1)) in
-    let from-all : All (FromZero n) rs = all-image {P = λ o. Same o l × (length o ≡ n - 1)} (λ o. 0 ∷ o) os (λ o q. zero-then n o pos (q .0) (q .1)) (all-both os same-all (orders-length (n - 1) l)) in
-    record {
-      from-zero = one-of d (FromZero n) so rs from-first from-all;
-      cheapest = λ q h. all-in q (so ∷ rs) (none-cheaper d so rs) (later (then-zero n q pos h));
-      first = λ q h e. all-in q (so ∷ rs) (stands-first d so rs chain) (later (then-zero n q pos h)) e;
-    }
+in-known : {A : Type 0} {x y : A} {l : List A} → In y l → In x (y ∷ l) → In x l
+in-known k top = k
+in-known k (down h) = h
+
+-- the plain walk over all orders keeps the exact round
+pub plain-exact : (d : Legs) (n : ℕ) → 1 ≤ n → Exact d n (exactRound d n)
+unfolding exactRound
+plain-exact d n h =
+    let all = kept d (0 ∷ later n) (rounds n) (
+      λ q k. let z = round-order n q h (in-round n q h k) in
+          rw (z .1) (more (order-first 1 (later n) (z .0) up (z .2))),
+      rounds-sorted n,
+    ) in
+    rw (begins n h) (record {
+      from-zero = in-round n (cheapestOf d (0 ∷ later n) (rounds n)) h (in-known (round-in n (0 ∷ later n) h (order-round n (later n) h (order-self 1 (later n) up))) (all .there));
+      cheapest = λ q f. all .low q (down (round-in n q h f));
+      first = λ q f e. all .tie q (down (round-in n q h f)) e;
+    })
+  where
+    up : Up 1 (later n)
+    up = up-rising (n - 1) 1

@@ -9,6 +9,7 @@ pub mod EveryLaws
 pub mod ExactLaws
 pub mod FlipLaws
 pub mod GainLaws
+pub mod InLaws
 pub mod JournalLaws
 pub mod KickLaws
 pub mod KickTimeLaws
@@ -17,6 +18,7 @@ pub mod LandLaws
 pub mod Lk3Laws
 pub mod LkLaws
 pub mod LoneLaws
+pub mod OnwardLaws
 pub mod OrMoveLaws
 pub mod OrderLaws
 pub mod PermLaws
@@ -30,6 +32,7 @@ pub mod ScanLaws
 pub mod SearchLaws
 pub mod SearchTimeLaws
 pub mod SegmentLaws
+pub mod SetLaws
 pub mod SinceLaws
 pub mod SpanLaws
 pub mod SpotLaws
@@ -39,6 +42,7 @@ pub mod StateLaws
 pub mod StepLaws
 pub mod StepSinceLaws
 pub mod StretchLaws
+pub mod TableLaws
 pub mod TallyLaws
 pub mod TiedLaws
 pub mod TimeLaws

@@ -1,191 +1,246 @@
--- 01, 13: the plain walk meets every order of its stops, and no other list, in dictionary order.
-use Prim.Native.Nat.{_+_, _<_, _≤_, suc, zero, ℕ}
-use mathlib.Core.Path.{_∙_, _≡_, ap, refl, subst, sym}
-use mathlib.Core.Bool.{Bool, not}
-use mathlib.Core.List.{List, [], _++_, _∷_, map}
+-- 01, 13: the orders of a list of stops are its permutations, in dictionary order; behind stop 0 they are the rounds from stop 0.
+use Prim.Native.Nat.{ℕ, zero, suc, _+_, _-_, _≤_, _<_}
+use mathlib.Core.Path.{_≡_, refl, sym, ap, subst}
+use mathlib.Core.Logic.{_⊎_, inl, inr, ⊎-elim, _≢_}
+use mathlib.Core.Bool.{true}
+use mathlib.Core.List.{List, [], _∷_, _++_, map}
 use native.Mathlib.Decide.{ℕ-discrete}
 use native.Mathlib.Omega.{arith}
 use lib.Dec.{eqb}
 use lib.ListN.{length}
-use Rattle.rules.specs.Exact.{Before, less, orders, same}
-use Rattle.rules.specs.Lists.{each, keep, one, rising, tally}
+use borrow.Author.Tests.{eq-eqb, ne-eqb, eqb-true}
+use Rattle.rules.specs.Words.{Stop, Round}
+use Rattle.rules.specs.Lists.{rising, each, keep, every, one, tally}
+use Rattle.rules.specs.Ring.{isRound}
 use Rattle.rules.specs.Start.{without}
-use Rattle.rules.specs.Words.{Stop}
-use Rattle.laws.proofs.ChoiceLaws.{either-way}
-use Rattle.laws.proofs.EveryLaws.{All, all-any, all-each, all-image, all-join, all-keep, all-map, more, none}
-use Rattle.laws.proofs.TallyLaws.{one-other, one-same}
-use Rattle.laws.proofs.WithoutLaws.{without-length, without-once, without-other, without-same}
+use Rattle.rules.specs.Exact.{Before, same, less, more, FromZero, orders, rounds}
+use Rattle.laws.proofs.ChoiceLaws.{and-true}
+use Rattle.laws.proofs.RisingLaws.{every-rising, rising-every, rising-length}
+use Rattle.laws.proofs.InLaws.{In, top, down, in-some, in-either, in-map, map-in, in-each, each-in, in-rising, rising-in, Up, up-rising, up-in, without-in, up-without, without-same, without-other, without-first, length-without}
 
--- ---- one of a list
-pub data In {A : Type 0} (x : A) : List A → Type 0 where
-  here : {y : A} {xs : List A} → y ≡ x → In x (y ∷ xs)
-  later : {y : A} {xs : List A} → In x xs → In x (y ∷ xs)
+-- o goes through each of l once
+pub data Order : List Stop → List Stop → Type 0 where
+  none : Order [] []
+  next : {v : Stop} {l o : List Stop} → In v l → Order (without v l) o → Order l (v ∷ o)
 
--- a property of all is its own
-pub all-in : {A : Type 0} {P : A → Type 0} (x : A) (xs : List A) → All P xs → In x xs → P x
-all-in {P = P} x (y ∷ xs) (more p a) (here e) = subst P e p
-all-in x (y ∷ xs) (more p a) (later i) = all-in x xs a i
+pub order-length : (i : ℕ) {l o : List Stop} → Up i l → Order l o → length o ≡ length l
+order-length i u none = refl
+order-length i {l} u (next {v = v} h k) = omega (arith, length-without v i u h, order-length i (up-without v i l u) k)
 
-in-all : {A : Type 0} {P : A → Type 0} (xs : List A) → ((x : A) → In x xs → P x) → All P xs
-in-all [] h = none
-in-all (x ∷ xs) h = more (h x (here refl)) (in-all xs (λ y i. h y (later i)))
+-- the list itself is the first of its orders
+pub order-self : (i : ℕ) (l : List Stop) → Up i l → Order l l
+order-self i [] u = none
+order-self i (v ∷ l) u = next top (subst (λ (r : List Stop). Order r l) (sym (without-first v l (u .1))) (order-self (suc v) l (u .1)))
 
-in-left : {A : Type 0} (x : A) (xs ys : List A) → In x xs → In x (xs ++ ys)
-in-left x (y ∷ xs) ys (here e) = here e
-in-left x (y ∷ xs) ys (later i) = later (in-left x xs ys i)
-
-in-right : {A : Type 0} (x : A) (xs ys : List A) → In x ys → In x (xs ++ ys)
-in-right x [] ys i = i
-in-right x (y ∷ xs) ys i = later (in-right x xs ys i)
-
--- the image of one of a list is one of the images
-pub in-map : {A B : Type 0} (f : A → B) (x : A) (xs : List A) → In x xs → In (f x) (map f xs)
-in-map f x (y ∷ xs) (here e) = here (ap f e)
-in-map f x (y ∷ xs) (later i) = later (in-map f x xs i)
-
-in-each : {A B : Type 0} (f : A → List B) (x : A) (y : B) (xs : List A) → In x xs → In y (f x) → In y (each f xs)
-unfolding each
-in-each f x y (z ∷ xs) (here e) j = in-left y (f z) (each f xs) (subst (λ w. In y (f w)) (sym e) j)
-in-each f x y (z ∷ xs) (later i) j = in-right y (f z) (each f xs) (in-each f x y xs i j)
-
-tally-in : (l : List Stop) (v : Stop) → 0 < tally l v → In v l
-unfolding tally
-tally-in [] v h = absurd (omega arith)
-tally-in (x ∷ l) v h = elim (ℕ-discrete x v) [ yes e ↦ here e | no ne ↦ later (tally-in l v (omega (arith, one-other ne))) ]
-
-in-tally : (l : List Stop) (v : Stop) → In v l → 0 < tally l v
-unfolding tally
-in-tally (x ∷ l) v (here e) = omega (arith, one-same e)
-in-tally (x ∷ l) v (later i) = omega (arith, in-tally l v i)
-
--- ---- an order of a list: the same stops, as often
-abbrev pub Same : List Stop → List Stop → Type 0
-Same o l = (u : Stop) → tally o u ≡ tally l u
-
-abbrev pub Once : List Stop → Type 0
-Once l = (u : Stop) → tally l u ≤ 1
-
-empty-tally : (l : List Stop) → Same l [] → l ≡ []
-unfolding tally
-empty-tally [] h = refl
-empty-tally (x ∷ l) h = absurd (omega (arith, h x, one-same (refl {a = x})))
-
--- a stop first, then an order of the others; and back
-first-then : (v : Stop) (o l : List Stop) → Once l → 0 < tally l v → Same o (without v l) → Same (v ∷ o) l
-unfolding tally
-first-then v o l h i s u = elim (ℕ-discrete v u) [
-  | yes e ↦ (let q : tally (without v l) u ≡ 0 = ap (tally (without v l)) (sym e) ∙ without-same v l in let k : 0 < tally l u = subst (λ w. 0 < tally l w) e i in omega (arith, one-same e, s u, h u))
-  | no ne ↦ omega (arith, one-other ne, s u, without-other v u l ne)
-]
-
-then-first : (v : Stop) (o l : List Stop) → Once l → Same (v ∷ o) l → Same o (without v l)
-unfolding tally
-then-first v o l h s u = elim (ℕ-discrete v u) [
-  | yes e ↦ (let q : tally (without v l) u ≡ 0 = ap (tally (without v l)) (sym e) ∙ without-same v l in omega (arith, one-same e, s u, h u))
-  | no ne ↦ omega (arith, one-other ne, s u, without-other v u l ne)
-]
-
-fewer : (v : Stop) (l : List Stop) (count : ℕ) → length l ≡ suc count → Once l → 0 < tally l v → length (without v l) ≡ count
-fewer v l count e h i = omega (arith, without-length v l, h v)
-
-first-in : (v : Stop) (o l : List Stop) → Same (v ∷ o) l → 0 < tally l v
-unfolding tally
-first-in v o l s = omega (arith, s v, one-same (refl {a = v}))
-
--- the walk meets orders alone
-pub orders-same : (count : ℕ) (l : List Stop) → length l ≡ count → Once l → All (λ o. Same o l) (orders count l)
+-- ---- as computed
+pub order-in : (count i : ℕ) {l o : List Stop} → Up i l → length l ≡ count → Order l o → In o (orders count l)
 unfolding orders
-orders-same zero [] e h = more (λ u. refl) none
-orders-same zero (x ∷ l) e h = absurd (omega arith)
-orders-same (suc count) l e h =
-    all-each {P = λ v. 0 < tally l v} (λ v. map (λ o. v ∷ o) (orders count (without v l))) l
-    (λ v i. all-image {P = λ o. Same o (without v l)} (λ o. v ∷ o) (orders count (without v l)) (λ o s. first-then v o l h i s) (orders-same count (without v l) (fewer v l count e h i) (without-once v l h)))
-    (in-all l (in-tally l))
+order-in zero i u e none = top
+order-in zero i u e (next h k) = absurd (omega (arith, in-some h))
+order-in (suc count) i u e none = absurd (omega arith)
+order-in (suc count) i {l} u e (next {v = v} h k) =
+    in-each (λ w. map (λ r. w ∷ r) (orders count (without w l))) h
+    (in-map (λ r. v ∷ r) (order-in count i (up-without v i l u) (omega (arith, length-without v i u h)) k))
 
-pub orders-length : (count : ℕ) (l : List Stop) → All (λ o. length o ≡ count) (orders count l)
+pub in-order : (count i : ℕ) (l : List Stop) {o : List Stop} → Up i l → length l ≡ count → In o (orders count l) → Order l o
 unfolding orders
-orders-length zero l = more refl none
-orders-length (suc count) l =
-    all-each {P = λ v. Unit} (λ v. map (λ o. v ∷ o) (orders count (without v l))) l
-    (λ v t. all-image {P = λ o. length o ≡ count} (λ o. v ∷ o) (orders count (without v l)) (λ o e. ap suc e) (orders-length count (without v l))) (all-any l)
-
--- and every one
-pub orders-all : (count : ℕ) (l o : List Stop) → length l ≡ count → Once l → Same o l → In o (orders count l)
-unfolding orders
-orders-all zero [] o e h s = here (sym (empty-tally o s))
-orders-all zero (x ∷ l) o e h s = absurd (omega arith)
-orders-all (suc count) l [] e h s = absurd (none-left l e s)
-  where
-    none-left : (l : List Stop) → length l ≡ suc count → Same [] l → ⊥
-    none-left l e s = let q : l ≡ [] = empty-tally l (λ u. sym (s u)) in let z : length l ≡ 0 = ap length q in omega arith
-orders-all (suc count) l (v ∷ o) e h s =
-    let i : 0 < tally l v = first-in v o l s in
-    in-each (λ v. map (λ o. v ∷ o) (orders count (without v l))) v (v ∷ o) l (tally-in l v i)
-    (in-map (λ o. v ∷ o) o (orders count (without v l)) (orders-all count (without v l) o (fewer v l count e h i) (without-once v l h) (then-first v o l h s)))
+in-order zero i [] u e top = none
+in-order zero i [] u e (down h) = absurd (omega (arith, in-some h))
+in-order zero i (v ∷ l) u e h = absurd (omega arith)
+in-order (suc count) i l u e h =
+    let r = each-in (λ w. map (λ q. w ∷ q) (orders count (without w l))) l h in
+    let v = r .0 in
+    let q = map-in (λ x. v ∷ x) (orders count (without v l)) (r .2) in
+    subst (Order l) (sym (q .2)) (next (r .1) (in-order count i (without v l) (up-without v i l u) (omega (arith, length-without v i u (r .1))) (q .1)))
 
 -- ---- in dictionary order
--- a list of stops that rises
-pub data Up : List Stop → Type 0 where
-  flat : Up []
-  rise : {x : Stop} {xs : List Stop} → All (λ y. x < y) xs → Up xs → Up (x ∷ xs)
+pub before-self : (o : List Stop) → Before o o
+before-self [] = same
+before-self (v ∷ o) = more (before-self o)
 
-up-keep : (p : Stop → Bool) (l : List Stop) → Up l → Up (keep p l)
-unfolding keep
-up-keep p [] flat = flat
-up-keep p (x ∷ l) (rise a u) = either-way Up (p x) (rise (all-map (keep p l) (λ y q. q .0) (all-keep p l a)) (up-keep p l u)) (up-keep p l u)
+pub before-before : {p q r : List Stop} → Before p q → Before q r → Before p r
+before-before same h = h
+before-before (less {a = a} l) (less {b = c} k) = let z : a < c = omega arith in less z
+before-before (less l) (more h) = less l
+before-before (more h) (less l) = less l
+before-before (more h) (more k) = more (before-before h k)
 
-up-without : (v : Stop) (l : List Stop) → Up l → Up (without v l)
-unfolding without
-up-without v l u = up-keep (λ w. not (eqb w v)) l u
+abbrev pub Sorted : List (List Stop) → Type 0
+Sorted [] = Unit {0}
+Sorted (o ∷ os) = ((q : List Stop) → In q os → Before o q) × Sorted os
 
-rising-above : (count a b : ℕ) → b < a → All (λ y. b < y) (rising count a)
-unfolding rising
-rising-above zero a b h = none
-rising-above (suc count) a b h = more h (rising-above count (a + 1) b (omega arith))
+pub sorted-map : (v : Stop) (os : List (List Stop)) → Sorted os → Sorted (map (λ o. v ∷ o) os)
+sorted-map v [] s = tt
+sorted-map v (o ∷ os) s =
+    (λ q h. let r = map-in (λ x. v ∷ x) os h in subst (Before (v ∷ o)) (sym (r .2)) (more (s .0 (r .0) (r .1))), sorted-map v os (s .1))
 
-pub rising-up : (count a : ℕ) → Up (rising count a)
-unfolding rising
-rising-up zero a = flat
-rising-up (suc count) a = rise (rising-above count (a + 1) a (omega arith)) (rising-up count (a + 1))
+sorted-join : (os ps : List (List Stop)) → Sorted os → Sorted ps → ((o p : List Stop) → In o os → In p ps → Before o p) → Sorted (os ++ ps)
+sorted-join [] ps s t h = t
+sorted-join (o ∷ os) ps s t h =
+    (λ q k. ⊎-elim (λ z. s .0 q z) (λ z. h o q top z) (in-either os k), sorted-join os ps (s .1) t (λ p q a b. h p q (down a) b))
 
--- of all orders of a list that rises, it stands first itself
-pub up-first : (l o : List Stop) → Up l → Same o l → Before l o
+-- the lists that begin with one stop stand before those that begin with a later one
+sorted-each : (f : Stop → List (List Stop)) → ((v : Stop) → Sorted (map (λ o. v ∷ o) (f v))) → (i : ℕ) (l : List Stop) → Up i l
+    → Sorted (each (λ v. map (λ o. v ∷ o) (f v)) l)
+unfolding each
+sorted-each f s i [] u = tt
+sorted-each f s i (v ∷ l) u =
+    sorted-join (map (λ o. v ∷ o) (f v)) (each (λ w. map (λ o. w ∷ o) (f w)) l) (s v) (sorted-each f s (suc v) l (u .1))
+    (λ o p a b.
+    let x = map-in (λ r. v ∷ r) (f v) a in
+    let y = each-in (λ w. map (λ r. w ∷ r) (f w)) l b in
+    let z = map-in (λ r. (y .0) ∷ r) (f (y .0)) (y .2) in
+    let h : v < y .0 = up-in (suc v) (u .1) (y .1) in
+    rw (x .2, z .2) (less h))
+
+pub orders-sorted : (count i : ℕ) (l : List Stop) → Up i l → Sorted (orders count l)
+unfolding orders
+orders-sorted zero i l u = (λ q h. absurd (omega (arith, in-some h)), tt)
+orders-sorted (suc count) i l u =
+    sorted-each (λ v. orders count (without v l)) (λ v. sorted-map v (orders count (without v l)) (orders-sorted count i (without v l) (up-without v i l u))) i l u
+
+-- ---- by tally
+one-same : (v : Stop) → one v v ≡ 1
+unfolding one
+one-same v = rw (eq-eqb v v refl)
+
+one-other : {x v : Stop} → x ≢ v → one x v ≡ 0
+unfolding one
+one-other {x} {v} ne = rw (ne-eqb x v ne)
+
+-- of a list that rises each is there once
+up-none : (i : ℕ) (l : List Stop) → Up i l → (v : Stop) → v < i → tally l v ≡ 0
 unfolding tally
-up-first [] o u s = subst (Before []) (sym (empty-tally o s)) same
-up-first (a ∷ l) [] u s = absurd (omega (arith, s a, one-same (refl {a = a})))
-up-first (a ∷ l) (b ∷ o) (rise above u) s = elim (ℕ-discrete a b) [
-  | yes e ↦ subst (λ c. Before (a ∷ l) (c ∷ o)) e (Before.more (up-first l o u (λ v. omega (arith, s v, ap (λ c. one c v) e))))
-  | no ne ↦ less (all-in b l above (tally-in l b (omega (arith, s b, one-same (refl {a = b}), one-other ne))))
-]
+up-none i [] u v h = refl
+up-none i (x ∷ l) u v h =
+    let ne : x ≢ v = omega (arith, u .0) in
+    omega (arith, one-other ne, up-none (suc x) l (u .1) v (omega (arith, u .0)))
 
--- lists of which each stands before the later ones
-pub data Chain : List (List Stop) → Type 0 where
-  lone : Chain []
-  link : {r : List Stop} {rs : List (List Stop)} → All (Before r) rs → Chain rs → Chain (r ∷ rs)
+up-once : (i : ℕ) {v : Stop} {l : List Stop} → Up i l → In v l → tally l v ≡ 1
+unfolding tally
+up-once i {v} u (top {l = l}) = omega (arith, one-same v, up-none (suc v) l (u .1) v (omega arith))
+up-once i {v} u (down {y = y} h) =
+    let ne : y ≢ v = omega (arith, up-in (suc y) (u .1) h) in
+    omega (arith, one-other ne, up-once (suc y) (u .1) h)
 
-chain-join : (xs ys : List (List Stop)) → Chain xs → Chain ys → All (λ x. All (Before x) ys) xs → Chain (xs ++ ys)
-chain-join [] ys lone c a = c
-chain-join (x ∷ xs) ys (link h b) c (more k a) = link (all-join xs ys h k) (chain-join xs ys b c a)
+tally-without : (k : Stop) (i : ℕ) {l : List Stop} → Up i l → In k l → (v : Stop) → tally l v ≡ one k v + tally (without k l) v
+unfolding tally
+tally-without k i u (top {l = l}) v = ap (λ (r : List Stop). one k v + tally r v) (sym (without-first k l (u .1)))
+tally-without k i u (down {y = y} {l = l} h) v =
+    let ne : y ≢ k = omega (arith, up-in (suc y) (u .1) h) in
+    rw (without-other k y l ne) (omega (arith, tally-without k (suc y) (u .1) h v))
 
--- the same stop before each
-pub chain-map : (v : Stop) (xs : List (List Stop)) → Chain xs → Chain (map (λ o. v ∷ o) xs)
-chain-map v [] lone = lone
-chain-map v (x ∷ xs) (link h c) = link (all-image {P = Before x} (λ o. v ∷ o) xs (λ o b. Before.more b) h) (chain-map v xs c)
+pub order-tally : (i : ℕ) {l o : List Stop} → Up i l → Order l o → (v : Stop) → tally o v ≡ tally l v
+unfolding tally
+order-tally i u none v = refl
+order-tally i {l} u (next {v = k} h q) v = omega (arith, tally-without k i u h v, order-tally i (up-without k i l u) q v)
 
--- the walk goes by the dictionary
-pub orders-chain : (count : ℕ) (l : List Stop) → Up l → Chain (orders count l)
-unfolding orders each
-orders-chain zero l u = link none lone
-orders-chain (suc count) l u = blocks (λ k. orders-chain count (without k l) (up-without k l u)) l u
+-- the others of a list, how many, and how often each
+module _ (x : Stop) where
+  length-tally : (l : List Stop) → length (without x l) + tally l x ≡ length l
+  unfolding tally without keep
+  length-tally [] = refl
+  length-tally (y ∷ l) =
+      elim (ℕ-discrete y x) [
+        | yes e ↦ rw (without-same x y l e) (omega (arith, length-tally l, ap (λ z. one z x) e, one-same x))
+        | no ne ↦ rw (without-other x y l ne) (omega (arith, length-tally l, one-other ne))
+      ]
+
+  tally-other : (l : List Stop) (v : Stop) → x ≢ v → tally (without x l) v ≡ tally l v
+  unfolding tally without keep
+  tally-other [] v d = refl
+  tally-other (y ∷ l) v d =
+      elim (ℕ-discrete y x) [
+        | yes e ↦ rw (without-same x y l e) (omega (arith, tally-other l v d, ap (λ z. one z v) e, one-other d))
+        | no ne ↦ rw (without-other x y l ne) (omega (arith, tally-other l v d))
+      ]
+
+-- a list that has all of l is no shorter
+tally-room : (i : ℕ) (l o : List Stop) → Up i l → ((v : Stop) → In v l → 1 ≤ tally o v) → length l ≤ length o
+tally-room i [] o u h = omega arith
+tally-room i (x ∷ l) o u h =
+    let on = tally-room (suc x) l (without x o) (u .1) (λ v k. let d : x ≢ v = omega (arith, up-in (suc x) (u .1) k) in omega (arith, tally-other x o v d, h v (down k))) in
+    omega (arith, length-tally x o, h x top)
+
+in-or-not : (v : Stop) (l : List Stop) → In v l ⊎ (In v l → ⊥)
+in-or-not v [] = inr (λ h. omega (arith, in-some h))
+in-or-not v (x ∷ l) =
+    elim (ℕ-discrete x v) [
+      | yes e ↦ inl (subst (λ y. In y (x ∷ l)) e top)
+      | no ne ↦ ⊎-elim (λ h. inl (down h)) (λ h. inr (λ k. ne (other k h))) (in-or-not v l)
+    ]
   where
-    block : Stop → List (List Stop)
-    block v = map (λ o. v ∷ o) (orders count (without v l))
+    other : {y : Stop} {r : List Stop} → In v (y ∷ r) → (In v r → ⊥) → y ≡ v
+    other top h = refl
+    other (down k) h = absurd (h k)
 
-    after : (k : Stop) (ks : List Stop) → All (λ w. k < w) ks → All (λ q. (o : List Stop) → Before (k ∷ o) q) (each block ks)
-    after k ks h = all-each {P = λ w. k < w} block ks (λ w b. all-image {P = λ o. Unit} (λ o. w ∷ o) (orders count (without w l)) (λ o t p. less b) (all-any (orders count (without w l)))) h
+-- as long as l, and each of l once: an order of l
+pub tally-order : (i : ℕ) (l o : List Stop) → Up i l → length o ≡ length l → ((v : Stop) → In v l → tally o v ≡ 1) → Order l o
+unfolding tally
+tally-order i [] [] u e h = none
+tally-order i (x ∷ l) [] u e h = absurd (omega arith)
+tally-order i l (k ∷ o) u e h =
+    ⊎-elim
+    (λ z. next z (tally-order i (without k l) o (up-without k i l u) (omega (arith, length-without k i u z))
+    (λ v y. let r = without-in k l y in let d : k ≢ v = λ same. r .1 (sym same) in omega (arith, h v (r .0), one-other d))))
+    (λ out. absurd (omega (arith, tally-room i l o u (λ v z. omega (arith, h v z, apart out v z)))))
+    (in-or-not k l)
+  where
+    apart : (In k l → ⊥) → (v : Stop) → In v l → one k v ≡ 0
+    apart out v z = one-other (λ same. out (subst (λ y. In y l) (sym same) z))
 
-    blocks : ((k : Stop) → Chain (orders count (without k l))) → (ks : List Stop) → Up ks → Chain (each block ks)
-    blocks c [] flat = lone
-    blocks c (k ∷ ks) (rise h v) =
-        chain-join (block k) (each block ks) (chain-map k (orders count (without k l)) (c k)) (blocks c ks v)
-        (all-image {P = λ o. Unit} (λ o. k ∷ o) (orders count (without k l)) (λ o t. all-map (each block ks) (λ q f. f o) (after k ks h)) (all-any (orders count (without k l))))
+-- ---- the rounds from stop 0
+-- the stops but stop 0
+abbrev pub later : ℕ → List Stop
+later n = rising (n - 1) 1
+
+pub order-round : (n : ℕ) (o : List Stop) → 1 ≤ n → Order (later n) o → FromZero n (0 ∷ o)
+unfolding isRound tally
+order-round n o h k = record { zero-first = refl; each-once = rw (long, every-stop) }
+  where
+    up : Up 1 (later n)
+    up = up-rising (n - 1) 1
+
+    long : eqb (suc (length o)) n ≡ true
+    long = eq-eqb (suc (length o)) n (omega (arith, order-length 1 up k, rising-length (n - 1) 1))
+
+    each-one : (v : Stop) → v < n → tally (0 ∷ o) v ≡ 1
+    each-one v l =
+        elim (ℕ-discrete 0 v) [
+          | yes e ↦ omega (arith, ap (λ z. one z v) e, one-same v, order-tally 1 up k v, up-none 1 (later n) up v (omega arith))
+          | no ne ↦ omega (arith, one-other ne, order-tally 1 up k v, up-once 1 up (in-rising (n - 1) 1 v (omega arith) (omega arith)))
+        ]
+
+    every-stop : every (λ v. eqb (tally (0 ∷ o) v) 1) (rising n 0) ≡ true
+    every-stop = rising-every (λ v. eqb (tally (0 ∷ o) v) 1) n 0 (λ v a b. eq-eqb (tally (0 ∷ o) v) 1 (each-one v (omega arith)))
+
+pub round-order : (n : ℕ) (r : Round) → 1 ≤ n → FromZero n r → (o : List Stop) × (r ≡ 0 ∷ o) × Order (later n) o
+unfolding isRound tally
+round-order n [] h f = absurd (omega (arith, eqb-true 0 n (and-true (eqb 0 n) (every (λ v. eqb (tally [] v) 1) (rising n 0)) (f .each-once) .0)))
+round-order n (x ∷ o) h f = (
+  o,
+  ap (λ (v : Stop). v ∷ o) (f .zero-first),
+  tally-order 1 (later n) o (up-rising (n - 1) 1) (omega (arith, rising-length (n - 1) 1, eqb-true (suc (length o)) n (tests .0)))
+      (λ v z. let b = rising-in (n - 1) 1 z in let ne : x ≢ v = omega (arith, f .zero-first) in
+      omega (arith, one-other ne, eqb-true (tally (x ∷ o) v) 1 (every-rising (λ w. eqb (tally (x ∷ o) w) 1) n 0 (tests .1) v (omega arith) (omega arith)))),
+)
+  where
+    tests : (eqb (suc (length o)) n ≡ true) × (every (λ v. eqb (tally (x ∷ o) v) 1) (rising n 0) ≡ true)
+    tests = and-true (eqb (suc (length o)) n) (every (λ v. eqb (tally (x ∷ o) v) 1) (rising n 0)) (f .each-once)
+
+-- the rounds that the rule goes through are these, and stand in dictionary order
+pub round-in : (n : ℕ) (r : Round) → 1 ≤ n → FromZero n r → In r (rounds n)
+unfolding rounds
+round-in n r h f =
+    let z = round-order n r h f in
+    subst (λ (q : Round). In q (rounds n)) (sym (z .1)) (in-map (λ o. 0 ∷ o) (order-in (n - 1) 1 (up-rising (n - 1) 1) (rising-length (n - 1) 1) (z .2)))
+
+pub in-round : (n : ℕ) (r : Round) → 1 ≤ n → In r (rounds n) → FromZero n r
+unfolding rounds
+in-round n r h k =
+    let z = map-in (λ o. 0 ∷ o) (orders (n - 1) (later n)) k in
+    subst (FromZero n) (sym (z .2)) (order-round n (z .0) h (in-order (n - 1) 1 (later n) (up-rising (n - 1) 1) (rising-length (n - 1) 1) (z .1)))
+
+pub rounds-sorted : (n : ℕ) → Sorted (rounds n)
+unfolding rounds
+rounds-sorted n = sorted-map 0 (orders (n - 1) (later n)) (orders-sorted (n - 1) 1 (later n) (up-rising (n - 1) 1))

@@ -33,7 +33,8 @@ unfolding rising
 rising-length zero a = refl
 rising-length (suc count) a = ap suc (rising-length count (a + 1))
 
-rising-at : (count a i : ℕ) → i < count → at (rising count a) i ≡ a + i
+-- and rises by one
+pub rising-at : (count a i : ℕ) → i < count → at (rising count a) i ≡ a + i
 unfolding rising
 rising-at zero a i h = absurd (omega arith)
 rising-at (suc count) a zero h = omega arith
