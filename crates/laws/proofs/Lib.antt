@@ -1,2 +1,4 @@
 pub mod CellLaws
 pub mod ExactLaws
+pub mod PlaceLaws
+pub mod TiedLaws
