@@ -1,6 +1,6 @@
 // Places on a ring of n.
 ghost use mathlib.Core.Path.{_≡_};
-ghost use Prim.Native.Nat.{ℕ, _+_, _<_};
+ghost use Prim.Native.Nat.{ℕ, _+_, _<_, _≤_};
 ghost use Rattle.rules.specs.Ring.{next as nextOf, prev as prevOf, onWay};
 ghost use Rattle.rules.specs.Contracts.{Is};
 ghost use Rattle.ring.specs.Around.{wrapped};
@@ -43,4 +43,12 @@ pub fn on_way(a: u32, b: u32, c: u32) -> bool
         return true;
     }
     b <= c
+}
+
+// A place as a word.
+pub fn narrow(i: usize) -> u32
+    requires { ⌜ i ≤ 4096 ⌝ }
+    ensures { λ r. ⌜ r ≡ i ⌝ }
+{
+    i as u32
 }
