@@ -1,3 +1,5 @@
+use mathlib.Core.Path.{subst}
+use Rattle.rules.specs.Contracts.{Tied}
 use native.Mathlib.Omega.{arith}
 use lib.ListN.{length-set}
 use Rattle.rules.specs.Rewrite.{swapAt}
@@ -66,7 +68,7 @@ returns c =
     let a = c .before .before .before .before .before .before .before .before .args in
     record {
       is = cc;
-      tied = rw (c .before .before .before .wide .ensures, c .before .before .wide2 .ensures, c .before .narrow .ensures, c .narrow2 .ensures) (tied-swap (a .round .now) (a .places .now) (a .i) (a .j) (c .before .before .before .before .before .before .before .before .pre .0) (c .before .before .before .before .before .before .before .before .pre .1 .0) (c .before .before .before .before .before .before .before .before .pre .1 .1));
+      tied = subst (Tied (swapAt (a .i) (a .j) (a .round .now))) (cc (c .before .before .before .wide .ensures, c .before .before .wide2 .ensures, c .before .narrow .ensures, c .narrow2 .ensures)) (tied-swap (a .round .now) (a .places .now) (a .i) (a .j) (c .before .before .before .before .before .before .before .before .pre .0) (c .before .before .before .before .before .before .before .before .pre .1 .0) (c .before .before .before .before .before .before .before .before .pre .1 .1));
     }
 
 pub swap-raw-spec : {M : Type 1} → statement M
