@@ -5,3 +5,4 @@ pub mod TiedLaws
 pub mod RisingLaws
 pub mod JournalWordLaws
 pub mod TrackStepLaws
+pub mod WaitLaws
