@@ -10,6 +10,7 @@ pub mod ExactLaws
 pub mod FlipLaws
 pub mod GainLaws
 pub mod JournalLaws
+pub mod JournalWordLaws
 pub mod KickLaws
 pub mod KickTimeLaws
 pub mod KickedLaws
@@ -24,6 +25,10 @@ pub mod PlaceLaws
 pub mod QueueLaws
 pub mod ReadLaws
 pub mod RewriteLaws
+pub mod RingPlaceLaws
+pub mod RingRisingLaws
+pub mod RingTiedLaws
+pub mod RingWaitLaws
 pub mod RisingLaws
 pub mod RunLaws
 pub mod ScanLaws
@@ -42,6 +47,7 @@ pub mod StretchLaws
 pub mod TallyLaws
 pub mod TiedLaws
 pub mod TimeLaws
+pub mod TrackStepLaws
 pub mod TrialLaws
 pub mod TrialStopLaws
 pub mod TurnLaws
