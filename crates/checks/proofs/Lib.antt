@@ -1,0 +1,3 @@
+mod RoundLaws
+mod MarkLaws
+mod EntryLaws

@@ -1,0 +1,2 @@
+pub mod GrewLaws
+mod MoveLaws

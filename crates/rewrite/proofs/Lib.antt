@@ -1,0 +1,4 @@
+pub mod WriteLaws
+pub mod WindowLaws
+pub mod RotateLaws
+pub mod ReverseLaws

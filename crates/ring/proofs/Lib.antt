@@ -1,0 +1,4 @@
+pub mod AroundLaws
+pub mod TurnAtLaws
+pub mod CostLaws
+pub mod LegLaws
