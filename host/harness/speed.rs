@@ -9,9 +9,9 @@ use crate::tsp::{
 };
 
 /// Each side is timed this often, in turn, and the least time counts.
-const TURNS: usize = 7;
+const TURNS: usize = 25;
 /// A turn repeats its call until it takes about so many seconds.
-const TURN: f64 = 0.3;
+const TURN: f64 = 0.1;
 
 /// True where every round was the Rust's.
 pub fn measure() -> bool {
