@@ -25,7 +25,7 @@ pub fn written(words: &[u32], first: usize) -> bool {
         }
         i += 1;
     }
-    true
+    first <= words.len()
 }
 
 // Whether the round is the one that stands in the record from an index on.
