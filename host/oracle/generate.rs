@@ -63,7 +63,7 @@ pub fn generate(words: &[&str], out: &mut Out<'_>) -> Result<(), String> {
 
 /// A line for the start rounds, now and then one that is refused.
 fn start_line(chance: &mut Chance, item: usize, ranges: Ranges) -> String {
-    let (n, matrix) = slow_matrix(chance, item, ranges);
+    let (n, matrix) = shapes::with_slow_legs(chance, item, ranges.n);
     match chance.below(20) {
         0 => format!("{}{}", chance.one_of(&[0, 4097, n + 1]), words(&matrix)),
         1 => format!("{n}{}", words(&matrix[1..])),
@@ -73,7 +73,7 @@ fn start_line(chance: &mut Chance, item: usize, ranges: Ranges) -> String {
 
 /// A line for the exact solver, its table exact, larger or, now and then, too small.
 fn exact_line(chance: &mut Chance, item: usize, ranges: Ranges) -> String {
-    let (n, matrix) = slow_matrix(chance, item, ranges);
+    let (n, matrix) = shapes::with_slow_legs(chance, item, ranges.n);
     let least = (1 << (n - 1)) * (n - 1);
     let larger = least + chance.below(100);
     match chance.below(20) {
@@ -87,21 +87,6 @@ fn exact_line(chance: &mut Chance, item: usize, ranges: Ranges) -> String {
         3..=10 => format!("{n} {larger}{}", words(&matrix)),
         _ => format!("{n} {least}{}", words(&matrix)),
     }
-}
-
-/// A matrix that is symmetric or not, some with many legs at 65535.
-fn slow_matrix(chance: &mut Chance, item: usize, ranges: Ranges) -> (usize, Vec<u16>) {
-    let n = chance.from(ranges.n.0, ranges.n.1);
-    let symmetric = chance.one_in(3);
-    let mut matrix = shapes::matrix(chance, shapes::shape(item), n, symmetric);
-    if chance.one_in(3) {
-        for time in &mut matrix {
-            if chance.one_in(2) {
-                *time = u16::MAX;
-            }
-        }
-    }
-    (n, matrix)
 }
 
 /// Numbers, each after a space.

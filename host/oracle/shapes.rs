@@ -1,4 +1,4 @@
-//! Matrices and lists of many shapes, for the generator.
+//! Matrices and lists of many shapes, for the generator and the harness.
 
 use crate::chance::Chance;
 
@@ -59,6 +59,25 @@ pub fn matrix(chance: &mut Chance, shape: Shape, n: usize, symmetric: bool) -> V
         }
     }
     matrix
+}
+
+/// The item's n, from a range, and its matrix: symmetric or not, some with many legs at 65535.
+pub fn with_slow_legs(
+    chance: &mut Chance,
+    item: usize,
+    range: (usize, usize),
+) -> (usize, Vec<u16>) {
+    let n = chance.from(range.0, range.1);
+    let symmetric = chance.one_in(3);
+    let mut matrix = matrix(chance, shape(item), n, symmetric);
+    if chance.one_in(3) {
+        for time in &mut matrix {
+            if chance.one_in(2) {
+                *time = u16::MAX;
+            }
+        }
+    }
+    (n, matrix)
 }
 
 /// Points of the plane.
