@@ -2,7 +2,7 @@
 //
 // The list comes by standard input: records of a byte for the kind, four for the length, and as many bytes as that. A kind that is added
 // gets a function that runs one record, a line in `tried` and a tally.
-ghost use Prim.Native.Nat.{_≤_};
+ghost use Prim.Native.Nat.{_<_, _≤_};
 ghost use mathlib.Core.Path.{_≡_};
 ghost use lib.ListN.{length};
 
@@ -133,29 +133,41 @@ fn tried(
     if kind == EXACT {
         return tried_exact(sum, bytes, matrix, table, round);
     }
-    tell_unknown(sum.records);
+    tell_unknown(kind, sum.records);
     sum
 }
 
-// Says that a record is of no kind that is known.
-fn tell_unknown(number: u64) {
+// Whether this says that no record was read.
+fn ends(kind: u8) -> bool {
+    if kind == END {
+        return true;
+    }
+    kind == CUT
+}
+
+// Says that a record is of no kind that is known, if it is one.
+fn tell_unknown(kind: u8, number: u64) {
+    if ends(kind) {
+        return;
+    }
     io::write_all(1, b"record ");
     io::print_decimal(1, number);
     io::write_all(1, b" is of no known kind\n");
 }
 
-// A record more, of this kind.
+// The records so far, when this was read.
+fn records_after(records: u64, kind: u8) -> u64 {
+    if ends(kind) {
+        return records;
+    }
+    more(records)
+}
+
+// What was run so far, when this was read.
 fn met(sum: Sum, kind: u8) -> Sum {
     let mut next = sum;
     next.last = kind;
-    next.records = more(sum.records);
-    next
-}
-
-// No record more: the list is at its end, or cut.
-fn over(sum: Sum, how: u8) -> Sum {
-    let mut next = sum;
-    next.last = how;
+    next.records = records_after(sum.records, kind);
     next
 }
 
@@ -166,12 +178,6 @@ fn turn(sum: Sum, bytes: &mut [u8], matrix: &mut [u16], table: &mut [u32], round
 {
     let found = read(bytes);
     let size = found.length;
-    if found.kind == END {
-        return over(sum, END);
-    }
-    if found.kind == CUT {
-        return over(sum, CUT);
-    }
     tried(
         met(sum, found.kind),
         found.kind,
@@ -180,6 +186,17 @@ fn turn(sum: Sum, bytes: &mut [u8], matrix: &mut [u16], table: &mut [u32], round
         table,
         round,
     )
+}
+
+// The number of the turn after this one: the last of all where no record was read.
+fn turn_after(turns: u32, kind: u8) -> u32
+    requires { ⌜ turns < 1000000 ⌝ }
+    ensures { λ r. ⌜ turns < r ⌝ }
+{
+    if ends(kind) {
+        return 1000000;
+    }
+    turns + 1
 }
 
 // Runs the whole list.
@@ -196,13 +213,7 @@ fn replay(bytes: &mut [u8], matrix: &mut [u16], table: &mut [u32], round: &mut [
     let mut turns: u32 = 0;
     while turns < 1000000 {
         sum = turn(sum, bytes, matrix, table, round);
-        if sum.last == END {
-            return sum;
-        }
-        if sum.last == CUT {
-            return sum;
-        }
-        turns += 1;
+        turns = turn_after(turns, sum.last);
     }
     sum
 }

@@ -7,24 +7,6 @@ use Rattle.replay.proofs.turn.Tie as tie
 read-requires : tie.Need-read-requires
 read-requires c κs = search needs
 
-over-requires : tie.Need-over-requires
-over-requires c κs = search needs
-
-same-length : tie.Need-same-length
-same-length c = search needs
-
-returns : tie.Need-returns
-returns c = search needs
-
-over-requires-2 : tie.Need-over-requires-2
-over-requires-2 c κs = search needs
-
-same-length-2 : tie.Need-same-length-2
-same-length-2 c = search needs
-
-returns-2 : tie.Need-returns-2
-returns-2 c = search needs
-
 met-requires : tie.Need-met-requires
 met-requires c κs = search needs
 
@@ -37,38 +19,32 @@ slice-aggregate-tried c = simp (length-take) (omega arith)
 tried-requires : tie.Need-tried-requires
 tried-requires c κs = search needs
 
+same-length : tie.Need-same-length
+same-length c = search needs
+
+same-length-2 : tie.Need-same-length-2
+same-length-2 c = search needs
+
 same-length-3 : tie.Need-same-length-3
 same-length-3 c = search needs
 
 same-length-4 : tie.Need-same-length-4
 same-length-4 c = search needs
 
-same-length-5 : tie.Need-same-length-5
-same-length-5 c = search needs
-
-same-length-6 : tie.Need-same-length-6
-same-length-6 c = search needs
-
-returns-3 : tie.Need-returns-3
-returns-3 c = search needs
+returns : tie.Need-returns
+returns c = search needs
 
 pub turn-spec : {M : Type 1} → statement M
 turn-spec =
     tie.close
     (tie.spec
     read-requires
-    over-requires
-    same-length
-    returns
-    over-requires-2
-    same-length-2
-    returns-2
     met-requires
     slice-reshare-prefix-tried
     slice-aggregate-tried
     tried-requires
+    same-length
+    same-length-2
     same-length-3
     same-length-4
-    same-length-5
-    same-length-6
-    returns-3)
+    returns)
