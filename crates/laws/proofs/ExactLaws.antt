@@ -12,7 +12,8 @@ use Rattle.rules.specs.Lists.{if_then_else_, rising}
 use Rattle.rules.specs.Ring.{along, lap, recount}
 use Rattle.rules.specs.Start.{without}
 use Rattle.rules.specs.Exact.{Before, same, less, more, Exact, rounds, cheapestOf, exactRound}
-use Rattle.laws.proofs.InLaws.{In, top, down, in-some, Up, up-rising, up-in, without-first}
+use Rattle.laws.proofs.InLaws.{In, top, down, in-some, Up, up-rising, up-in}
+use Rattle.laws.proofs.WithoutLaws.{without-first}
 use Rattle.laws.proofs.OrderLaws.{Order, none, next, order-length, order-self, later, order-round, round-order, before-self, before-before, Sorted, round-in, in-round, rounds-sorted}
 
 -- of two lists of which each stands before the other, or is it, both are one

@@ -96,8 +96,8 @@ past-doingAll (e ∷ es) t h =
 pub past-grown : {t t′ : Track} → Past t t′ → length (t .journal) ≤ length (t′ .journal)
 past-grown {t} {t′} p = omega (arith, ap length (p .grown), length-append (p .newer) (t .journal))
 
--- ---- `rollback`
-rollback-step : (mark : ℕ) (e : Entry) (l : List Entry) (r : Round) → mark ≤ length l
+-- ---- `rollback`: the newest entry goes first
+pub rollback-step : (mark : ℕ) (e : Entry) (l : List Entry) (r : Round) → mark ≤ length l
     → rollback mark (record { round = r; journal = e ∷ l }) ≡ rollback mark (record { round = takeBack e r; journal = l })
 unfolding rollback undoAll
 rollback-step mark e l r h =
@@ -112,10 +112,11 @@ rollback-newer mark (e ∷ es) l r h =
     let g : mark ≤ length (es ++ l) = simp length-append (omega arith) in
     rollback-step mark e (es ++ l) r g ∙ rollback-newer mark es l (takeBack e r) h
 
-rollback-none : (t : Track) → rollback (length (t .journal)) t ≡ t
+-- none is newer than the mark
+pub rollback-done : (mark : ℕ) (t : Track) → length (t .journal) ≤ mark → rollback mark t ≡ t
 unfolding rollback undoAll
-rollback-none t =
-    let q : length (t .journal) - length (t .journal) ≡ 0 = omega arith in
+rollback-done mark t h =
+    let q : length (t .journal) - mark ≡ 0 = omega arith in
     rw q refl
 
 -- a mark below t is as good after t′
@@ -127,7 +128,7 @@ past-deeper {t} {t′} mark p h =
 
 -- back to the mark gives the track of the mark
 pub past-rollback : {t t′ : Track} → Past t t′ → rollback (length (t .journal)) t′ ≡ t
-past-rollback {t} {t′} p = past-deeper (length (t .journal)) p (omega arith) ∙ rollback-none t
+past-rollback {t} {t′} p = past-deeper (length (t .journal)) p (omega arith) ∙ rollback-done (length (t .journal)) t (omega arith)
 
 -- a journal that was empty at the mark, all of it taken back
 pub past-undone : {t t′ : Track} → Past t t′ → t .journal ≡ [] → undoAll (t′ .journal) (t′ .round) ≡ t .round

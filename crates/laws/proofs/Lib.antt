@@ -2,7 +2,6 @@ pub mod BoundLaws
 pub mod CellLaws
 pub mod CheckLaws
 pub mod ChoiceLaws
-pub mod CountLaws
 pub mod DescendLaws
 pub mod DrawLaws
 pub mod EvenLaws
@@ -27,14 +26,8 @@ pub mod PermLaws
 pub mod PlaceLaws
 pub mod QueueLaws
 pub mod ReadLaws
-pub mod ReverseBackLaws
 pub mod RewriteLaws
-pub mod RingPlaceLaws
-pub mod RingRisingLaws
-pub mod RingTiedLaws
-pub mod RingWaitLaws
 pub mod RisingLaws
-pub mod RoundCheckLaws
 pub mod RunLaws
 pub mod ScanLaws
 pub mod SearchLaws
@@ -54,10 +47,8 @@ pub mod TableLaws
 pub mod TallyLaws
 pub mod TiedLaws
 pub mod TimeLaws
-pub mod TrackStepLaws
 pub mod TrialLaws
 pub mod TrialStopLaws
-pub mod TurnBackLaws
 pub mod TurnLaws
 pub mod WaitLaws
 pub mod WayLaws

@@ -9,7 +9,6 @@ use native.Mathlib.Nat.{mul-le-mul-right}
 use native.Mathlib.Omega.{arith}
 use lib.Dec.{ltb}
 use lib.ListN.{length}
-use borrow.Author.Tests.{lt-ltb, le-ltb}
 use Rattle.rules.specs.Words.{Stop, Time, Legs}
 use Rattle.rules.specs.Lists.{if_then_else_, each}
 use Rattle.rules.specs.Ring.{along}
@@ -17,9 +16,11 @@ use Rattle.rules.specs.Start.{nearest, without}
 use Rattle.rules.specs.Exact.{Before, same, less, more, orders}
 use Rattle.rules.specs.Table.{unreached, leastOf}
 use Rattle.laws.proofs.ChoiceLaws.{either-way}
-use Rattle.laws.proofs.InLaws.{In, top, down, in-some, Up, up-lower, up-without, length-without}
+use Rattle.laws.proofs.InLaws.{In, top, down, in-some, Up, up-lower}
 use Rattle.laws.proofs.OrderLaws.{Order, none, next, order-self, order-in, in-order}
 use Rattle.laws.proofs.ExactLaws.{homeward, homeward-on, First}
+use Rattle.laws.proofs.StartLaws.{nearer, farther}
+use Rattle.laws.proofs.WithoutLaws.{up-without, length-without}
 
 -- what the cheapest walk from stop k through the stops of l and home takes
 unfoldable pub onward : Legs → Stop → List Stop → Time
@@ -142,15 +143,6 @@ pub record Nearest (f : Stop → Time) (l : List Stop) (k : Stop) : Type 0 where
   pub there : In k l
   pub low : (v : Stop) → In v l → f k ≤ f v
   pub first : (v : Stop) → In v l → f v ≡ f k → k ≤ v
-
-module _ (f : Stop → Time) (so v : Stop) (l : List Stop) where
-  pub nearer : f v < f so → nearest f so (v ∷ l) ≡ nearest f v l
-  unfolding nearest
-  nearer h = simp (lt-ltb (f v) (f so) h)
-
-  pub farther : f so ≤ f v → nearest f so (v ∷ l) ≡ nearest f so l
-  unfolding nearest
-  farther h = simp (le-ltb (f v) (f so) h)
 
 module _ (f : Stop → Time) where
   nearest-later : (so v : Stop) (l : List Stop) (k : Stop) → f v < f so → Nearest f (v ∷ l) k → Nearest f (so ∷ v ∷ l) k

@@ -16,8 +16,9 @@ use Rattle.rules.specs.Lists.{rising, keep}
 use Rattle.rules.specs.Start.{without}
 use Rattle.rules.specs.Table.{member, members}
 use Rattle.laws.proofs.ChoiceLaws.{either-if, true-false}
-use Rattle.laws.proofs.InLaws.{In, in-keep, keep-in, keep-yes, keep-no, keep-few, keep-none, keep-all, in-rising, rising-in, Up, up-rising, up-raise, up-keep, without-same, without-other, least-first}
+use Rattle.laws.proofs.InLaws.{In, in-keep, keep-in, keep-yes, keep-no, keep-few, keep-none, keep-all, in-rising, rising-in, Up, up-rising, up-raise, up-keep}
 use Rattle.laws.proofs.RisingLaws.{rising-length}
+use Rattle.laws.proofs.WithoutLaws.{without-same, without-other, least-first}
 
 -- the bit above the lowest is a bit of the half
 pub bit-half : (s j : ℕ) → s / 2 ^ suc j ≡ s / 2 / 2 ^ j

@@ -8,7 +8,7 @@ use lib.Dec.{eqb, leb, ltb}
 use lib.ListN.{length, length-append}
 use borrow.Author.Tests.{le-leb, lt-ltb}
 use Rattle.rules.specs.Improve.{Trial}
-use Rattle.rules.specs.Journal.{Entry, Track, doing, inRange, reversal, reversing, rotation}
+use Rattle.rules.specs.Journal.{Entry, Track, doing, inRange, reversal, reversing, rollback, rotation}
 use Rattle.rules.specs.Lists.{every, tally}
 use Rattle.rules.specs.Moves.{Case, exchange, flip, flips, inner, orMove, segment, seq3, two}
 use Rattle.rules.specs.Rewrite.{stretch}
@@ -16,7 +16,7 @@ use Rattle.rules.specs.Ring.{place, pred, succ}
 use Rattle.rules.specs.Words.{Place, Stop}
 use Rattle.laws.proofs.ChoiceLaws.{either-way}
 use Rattle.laws.proofs.EveryLaws.{Below, all-every, all-join, every-all, more, none}
-use Rattle.laws.proofs.JournalLaws.{Past, past-doing, past-length, past-past, past-refl}
+use Rattle.laws.proofs.JournalLaws.{Past, past-doing, past-length, past-past, past-refl, past-rollback}
 use Rattle.laws.proofs.PermLaws.{Perm, perm-kept, pred-below}
 use Rattle.laws.proofs.PlaceLaws.{place-below}
 use Rattle.laws.proofs.StretchLaws.{stretch-fits}
@@ -81,6 +81,10 @@ since-reversing s e t hs he =
     let f = stretch-fits (length t.round) s e hs he in
     either-way (Since t 1) (ltb w.len 2) (since-refl 1 t)
     (since-doing (reversal w.start w.len) t (rw (lt-ltb w.start (length t.round) f.start-below, le-leb w.len (length t.round) f.len-few)))
+
+-- taken back by a rollback to where the journal was
+pub reversing-back : (s e : Place) (t : Track) → s < length (t .round) → e < length (t .round) → rollback (length (t .journal)) (reversing s e t) ≡ t
+reversing-back s e t hs he = past-rollback (since-reversing s e t hs he .past)
 
 module _ (t : Track) (pm : Perm t.round) where
   spot : (v : Stop) → v < length t.round → place t.round v < length t.round

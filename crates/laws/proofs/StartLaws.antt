@@ -1,31 +1,20 @@
 -- 01, 12: the start round goes on, always, to the lowest of the nearest stops that are left.
 use Prim.Native.Nat.{ℕ, zero, suc, _+_, _*_, _≤_, _<_}
 use mathlib.Core.Path.{_≡_, refl, sym, ap, _∙_}
-use mathlib.Core.Bool.{Bool, true, false, not}
+use mathlib.Core.Bool.{Bool, true, false}
 use mathlib.Core.List.{List, _∷_}
 use mathlib.Core.Logic.{_⊎_, inl, inr, ⊎-elim, _≢_}
 use native.Mathlib.Omega.{arith}
 use native.Mathlib.Decide.{decLt, ℕ-discrete}
-use lib.Dec.{eqb}
 use lib.ListN.{length}
 use borrow.Author.Tests.{lt-ltb, le-ltb, le-leb, lt-leb, eq-eqb, ne-eqb}
 use Rattle.rules.specs.Words.{Stop, Time, Round, Legs}
 use Rattle.rules.specs.Lists.{rising, keep}
 use Rattle.rules.specs.Start.{nearest, without, startFrom}
 use Rattle.rules.specs.Numbers.{verdict, within, startNumber}
-
-either : (b : Bool) → (b ≡ true) ⊎ (b ≡ false)
-either true = inl refl
-either false = inr refl
-
-module _ (p : Stop → Bool) (v : Stop) (l : List Stop) where
-  keep-yes : p v ≡ true → keep p (v ∷ l) ≡ v ∷ keep p l
-  unfolding keep
-  keep-yes h = rw (h, keep)
-
-  keep-no : p v ≡ false → keep p (v ∷ l) ≡ keep p l
-  unfolding keep
-  keep-no h = rw (h, keep)
+use Rattle.laws.proofs.ChoiceLaws.{either}
+use Rattle.laws.proofs.InLaws.{keep-no, keep-yes}
+use Rattle.laws.proofs.WithoutLaws.{without-other, without-same}
 
 -- the stops that pass, of `count` from stop a on
 unfoldable pub passing : (Stop → Bool) → ℕ → Stop → List Stop
@@ -40,12 +29,13 @@ module _ (p : Stop → Bool) (count a : ℕ) where
   unfolding passing rising
   passing-no = keep-no p a (rising count (a + 1))
 
+-- of two stops the nearer, and the first of two that are as near
 module _ (f : Stop → Time) (so v : Stop) (vs : List Stop) where
-  nearer : f v < f so → nearest f so (v ∷ vs) ≡ nearest f v vs
+  pub nearer : f v < f so → nearest f so (v ∷ vs) ≡ nearest f v vs
   unfolding nearest
   nearer h = simp (lt-ltb (f v) (f so) h)
 
-  farther : f so ≤ f v → nearest f so (v ∷ vs) ≡ nearest f so vs
+  pub farther : f so ≤ f v → nearest f so (v ∷ vs) ≡ nearest f so vs
   unfolding nearest
   farther h = simp (le-ltb (f v) (f so) h)
 
@@ -123,15 +113,6 @@ module _ (d : Legs) (last : Stop) (count : ℕ) where
   start-on p n k below passes near first =
       let x = front (d last) p n k below passes near first n 0 (omega arith) (omega arith) in
       rw (x .is) (start-step (x .head) (x .tail) (x .gives))
-
-module _ (k v : Stop) (l : List Stop) where
-  without-same : v ≡ k → without k (v ∷ l) ≡ without k l
-  unfolding without
-  without-same e = keep-no (λ u. not (eqb u k)) v l (ap not (eq-eqb v k e))
-
-  without-other : v ≢ k → without k (v ∷ l) ≡ v ∷ without k l
-  unfolding without
-  without-other e = keep-yes (λ u. not (eqb u k)) v l (ap not (ne-eqb v k e))
 
 -- q passes what p does, but for k
 module _ (p q : Stop → Bool) (k : Stop) (gone : q k ≡ false) (others : (v : Stop) → v ≢ k → q v ≡ p v) where

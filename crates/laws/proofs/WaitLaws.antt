@@ -1,7 +1,7 @@
 -- 01, "a ring of n places": what a stop pushed and a stop taken do to the words, the head and the flags of a queue.
 use Prim.Native.Nat.{_%_, _+_, _<_, _≤_, suc, zero, ℕ}
 use mathlib.Core.Path.{_∙_, _≡_, ap, refl, sym}
-use mathlib.Core.Bool.{Bool, _||_, not, true}
+use mathlib.Core.Bool.{Bool, _||_, false, not, true}
 use mathlib.Core.List.{List, [], _++_, _∷_}
 use native.Mathlib.Numerals.{add-one}
 use native.Mathlib.Omega.{arith}
@@ -71,6 +71,20 @@ flagsOf-length n q = table-length (flag q) n
 pub flagsOf-at : (n : ℕ) (q : List Stop) (v : Stop) → v < n → at (flagsOf n q) v ≡ (if has q v then 1 else 0)
 unfolding flagsOf
 flagsOf-at n q v h = table-at (flag q) n v h
+
+pub flag-down : (n : ℕ) (q : List Stop) (v : Stop) → v < n → at (flagsOf n q) v ≡ 0 → has q v ≡ false
+flag-down n q v h e = go (has q v) (sym (flagsOf-at n q v h) ∙ e)
+  where
+    go : (b : Bool) → bit b ≡ 0 → b ≡ false
+    go true g = absurd (omega arith)
+    go false g = refl
+
+pub flag-up : (n : ℕ) (q : List Stop) (v : Stop) → v < n → 0 < at (flagsOf n q) v → has q v ≡ true
+flag-up n q v h e = go (has q v) (omega (arith, flagsOf-at n q v h))
+  where
+    go : (b : Bool) → 0 < bit b → b ≡ true
+    go true g = refl
+    go false g = absurd (omega arith)
 
 -- a stop is pushed: its flag is 1
 pub flagsOf-push : (n : ℕ) (q : List Stop) (v : Stop) → v < n → flagsOf n (push q v) ≡ set (flagsOf n q) v 1

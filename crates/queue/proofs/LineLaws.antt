@@ -12,18 +12,20 @@ use Rattle.rules.specs.Words.{Stop, Place}
 use Rattle.rules.specs.Lists.{at, has, tally}
 use Rattle.rules.specs.Ring.{next, turn}
 use Rattle.rules.specs.Queue.{push, waiting, flagsOf}
-use Rattle.laws.proofs.RingPlaceLaws.{next-lt}
-use Rattle.laws.proofs.RingWaitLaws.{single-push, single-take, single-gone, push-new, flag-down, flag-up, flags-push, flags-take, length-flags, room-to-wait}
+use Rattle.laws.proofs.EveryLaws.{at-below}
+use Rattle.laws.proofs.PlaceLaws.{next-below}
+use Rattle.laws.proofs.QueueLaws.{once-room, push-new, single-push, single-take, tally-once}
+use Rattle.laws.proofs.WaitLaws.{flag-down, flag-up, flagsOf-length, flagsOf-push, flagsOf-take}
 use Rattle.ring.specs.Around.{around}
 use Rattle.ring.specs.Legs.{Stops}
 use Rattle.ring.proofs.AroundLaws.{around-0, around-around, next-around}
-use Rattle.laws.proofs.TurnBackLaws.{length-turn}
+use Rattle.laws.proofs.TurnLaws.{turn-length}
 use Rattle.ring.proofs.TurnAtLaws.{at-turn, set-turn}
 use Rattle.queue.specs.Lines.{InLine, Waits, Took}
 
 pub length-waiting : (queue : List ℕ) (head : Place) (count : ℕ) → count ≤ length queue → length (waiting queue head count) ≡ count
 unfolding waiting
-length-waiting queue head count h = length-take-le count (turn head queue) (omega (arith, length-turn head queue))
+length-waiting queue head count h = length-take-le count (turn head queue) (omega (arith, turn-length head queue))
 
 -- who waits i places behind the first
 pub at-waiting : (queue : List ℕ) (head : Place) (count i : ℕ) → head < length queue → count ≤ length queue → i < count
@@ -36,7 +38,7 @@ waiting-more : (queue : List ℕ) (head : Place) (count v : ℕ) → head < leng
     → waiting (set queue (around (length queue) head count) v) head (count + 1) ≡ waiting queue head count ++ (v ∷ [])
 unfolding waiting
 waiting-more queue head count v h g =
-    rw (add-one count, set-turn head count v queue h g) (take-suc-set (turn head queue) count v (omega (arith, length-turn head queue)))
+    rw (add-one count, set-turn head count v queue h g) (take-suc-set (turn head queue) count v (omega (arith, turn-length head queue)))
 
 stops-more : (q : List Stop) (v n : ℕ) → Stops q n → v < n → Stops (q ++ (v ∷ [])) n
 stops-more q v n s h = record { below = λ i g. go i g (decLt i (length q)) }
@@ -58,7 +60,7 @@ module _ (queue flags : List ℕ) (head : Place) (count : ℕ) (i : InLine queue
   -- there is room for one who does not wait
   pub line-room : (v : Stop) → v < length queue → has (waiting queue head count) v ≡ false → count < length queue
   line-room v h gone =
-      let r = room-to-wait (length queue) (waiting queue head count) v (i .stops .below) (i .single) h gone in
+      let r = once-room (length queue) (waiting queue head count) v (tally-once (waiting queue head count) (i .single)) (at-below (length queue) (waiting queue head count) (i .stops .below)) h gone in
       omega (arith, length-waiting queue head count (i .room))
 
   pub line-pushed : (v : Stop) → v < length queue → has (waiting queue head count) v ≡ false
@@ -78,7 +80,7 @@ module _ (queue flags : List ℕ) (head : Place) (count : ℕ) (i : InLine queue
           room = omega arith;
           stops = rw (l, w) (stops-more q v n (i .stops) h);
           single = rw w (single-push q v (i .single) gone);
-          agreed = ap (λ (f : List ℕ). set f v 1) (i .agreed) ∙ flags-push n q v h ∙ sym (rw (l, w));
+          agreed = ap (λ (f : List ℕ). set f v 1) (i .agreed) ∙ sym (flagsOf-push n q v h) ∙ ap (flagsOf n) (push-new q v gone) ∙ sym (rw (l, w));
         };
       }
 
@@ -86,7 +88,7 @@ module _ (queue flags : List ℕ) (head : Place) (count : ℕ) (i : InLine queue
   waiting-less : 0 < count → waiting queue head count ≡ at queue head ∷ waiting queue (next (length queue) head) (count - 1)
   waiting-less h =
       let n : ℕ = length queue in
-      let hn : next n head < n = next-lt n head (i .start) in
+      let hn : next n head < n = next-below n head (i .start) in
       let c : count - 1 ≤ n = omega (arith, i .room) in
       let l : length (waiting queue head count) ≡ count = length-waiting queue head count (i .room) in
       let l′ : length (waiting queue (next n head) (count - 1)) ≡ count - 1 = length-waiting queue (next n head) (count - 1) c in
@@ -124,16 +126,16 @@ module _ (queue flags : List ℕ) (head : Place) (count : ℕ) (i : InLine queue
         count-is = omega arith;
         line = record {
           few = i .few;
-          start = next-lt n head (i .start);
+          start = next-below n head (i .start);
           room = omega (arith, i .room);
           stops = record { below = λ k g. b .below (suc k) (omega arith) };
           single = single-take v p s;
-          agreed = ap (λ (f : List ℕ). set f v 0) (i .agreed ∙ ap (flagsOf n) w) ∙ flags-take n p v (b .below 0 (omega arith)) (single-gone v p s);
+          agreed = ap (λ (f : List ℕ). set f v 0) (i .agreed ∙ ap (flagsOf n) w) ∙ sym (flagsOf-take n v p (b .below 0 (omega arith)) (tally-once (v ∷ p) s));
         };
       }
 
   pub length-flags-are : length flags ≡ length queue
-  length-flags-are = ap length (i .agreed) ∙ length-flags (length queue) (waiting queue head count)
+  length-flags-are = ap length (i .agreed) ∙ flagsOf-length (length queue) (waiting queue head count)
 
   -- nobody waits: the head may as well be 0
   pub line-cleared : count ≡ 0 → Waits [] 0 queue flags 0 0

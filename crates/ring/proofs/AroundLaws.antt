@@ -5,7 +5,7 @@ use native.Mathlib.Omega.{arith}
 use native.Mathlib.Decide.{decLt}
 use borrow.Author.Tests.{lt-ltb, le-ltb}
 use Rattle.rules.specs.Ring.{next, prev}
-use Rattle.laws.proofs.RingPlaceLaws.{Next, to-0, to-more, next-view, Prev, to-last, to-less, prev-view}
+use Rattle.laws.proofs.PlaceLaws.{Next, to-0, to-more, next-view, Prev, to-last, to-less, prev-view}
 use Rattle.ring.specs.Around.{wrapped, around}
 
 -- the two cases, of a place x that is a steps after s

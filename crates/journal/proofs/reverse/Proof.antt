@@ -6,7 +6,7 @@ use mathlib.Core.Path.{_≡_, _∙_}
 use native.Mathlib.Omega.{arith}
 use Rattle.rules.specs.Journal.{reversal, wordsOf, trackOf, carryOut}
 use Rattle.laws.proofs.JournalWordLaws.{in-reversal}
-use Rattle.laws.proofs.TrackStepLaws.{reversing-short, reversing-long}
+use Rattle.laws.proofs.StretchLaws.{reversing-short, reversing-long}
 use Rattle.rewrite.proofs.ReverseLaws.{reverse-short}
 use Rattle.journal.proofs.MoveLaws.{moved-one, moved-none}
 use borrow.Author.Needs.{needs}

@@ -3,7 +3,7 @@ use mathlib.Core.Path.{_≡_, refl, sym, ap, _∙_}
 use lib.ListN.{length}
 use Rattle.rules.specs.Rewrite.{reverseAt}
 use Rattle.rules.specs.Contracts.{Tied}
-use Rattle.laws.proofs.RingTiedLaws.{length-swap}
+use Rattle.laws.proofs.RewriteLaws.{swapAt-length}
 use Rattle.rewrite.proofs.ReverseLaws.{exchanges, exchanges-starts, exchanges-turn, exchanges-done, reverse-short}
 use borrow.Author.Needs.{needs}
 use Rattle.rewrite.proofs.reverse_positions.Statement.{statement}
@@ -58,7 +58,7 @@ loop-again c =
     let sw = c .before .before .before .before .before .before .swap-raw in
     let lp = c .before .before .before .before .before .before .before .before .before .before .loop in
     let n = length (c .before .before .before .before .before .before .before .before .before .before .before .before .before .before .before .args .round .now) in
-    let e : length (sw .last .0) ≡ n = ap length (sw .ensures .is) ∙ length-swap (lp .i) (lp .j) (lp .round) ∙ lp .inv .1 .0 in (
+    let e : length (sw .last .0) ≡ n = ap length (sw .ensures .is) ∙ swapAt-length (lp .i) (lp .j) (lp .round) ∙ lp .inv .1 .0 in (
       sw .ensures .tied,
       (
         e,
