@@ -34,6 +34,11 @@ module _ {A : Type 0} where
   in-either (y ∷ l) top = inl top
   in-either (y ∷ l) (down h) = ⊎-elim (λ z. inl (down z)) (λ z. inr z) (in-either l h)
 
+  -- one more behind the first
+  pub in-past : {x s : A} (y : A) {l : List A} → In x (s ∷ l) → In x (s ∷ y ∷ l)
+  in-past y top = top
+  in-past y (down h) = down (down h)
+
   -- what is kept was there and passes
   pub keep-yes : (p : A → Bool) (x : A) (l : List A) → p x ≡ true → keep p (x ∷ l) ≡ x ∷ keep p l
   unfolding keep

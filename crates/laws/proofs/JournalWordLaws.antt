@@ -16,6 +16,13 @@ use Rattle.rules.specs.Journal.{Entry, reversal, rotation, swap, wordsOf, entry
 use Rattle.laws.proofs.ChoiceLaws.{and-true, true-and}
 use Rattle.laws.proofs.RisingLaws.{every-rising, rising-every}
 
+-- an entry is five words
+pub length-words : (e : Entry) → length (wordsOf e) ≡ 5
+unfolding wordsOf
+length-words (reversal s l) = refl
+length-words (rotation s a b c) = refl
+length-words (swap p q) = refl
+
 -- ---- equal words are equal entries
 pub entry-same : (ws vs : List ℕ) (i : ℕ) → ((q : ℕ) → q < 5 * i + 5 → at ws q ≡ at vs q) → entryAt ws i ≡ entryAt vs i
 unfolding entryAt
@@ -119,12 +126,6 @@ module _ (n : ℕ) (ws : List ℕ) where
 
 -- ---- one entry more: ws has the words of vs held, and those of e behind them
 module _ (ws vs : List ℕ) (held : ℕ) (e : Entry) (fits : 5 * held ≤ length vs) (w : take (5 * (held + 1)) ws ≡ take (5 * held) vs ++ wordsOf e) where
-  length-words : (x : Entry) → length (wordsOf x) ≡ 5
-  unfolding wordsOf
-  length-words (reversal s l) = refl
-  length-words (rotation s a b c) = refl
-  length-words (swap p q) = refl
-
   length-old : length (take (5 * held) vs) ≡ 5 * held
   length-old = length-take-le (5 * held) vs fits
 

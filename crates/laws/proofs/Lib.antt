@@ -19,6 +19,7 @@ pub mod LandLaws
 pub mod Lk3Laws
 pub mod LkLaws
 pub mod LoneLaws
+pub mod NearestLaws
 pub mod OnwardLaws
 pub mod OrMoveLaws
 pub mod OrderLaws
@@ -38,6 +39,7 @@ pub mod SinceLaws
 pub mod SpanLaws
 pub mod SpotLaws
 pub mod StartLaws
+pub mod StartNumberLaws
 pub mod StartRoundLaws
 pub mod StateLaws
 pub mod StepLaws

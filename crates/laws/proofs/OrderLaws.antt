@@ -8,17 +8,17 @@ use native.Mathlib.Decide.{ℕ-discrete}
 use native.Mathlib.Omega.{arith}
 use lib.Dec.{eqb}
 use lib.ListN.{length}
-use borrow.Author.Tests.{eq-eqb, ne-eqb, eqb-true}
+use borrow.Author.Tests.{eq-eqb, eqb-true}
 use Rattle.rules.specs.Words.{Stop, Round}
-use Rattle.rules.specs.Lists.{rising, each, keep, every, one, tally}
+use Rattle.rules.specs.Lists.{rising, each, every, one, tally}
 use Rattle.rules.specs.Ring.{isRound}
 use Rattle.rules.specs.Start.{without}
 use Rattle.rules.specs.Exact.{Before, same, less, more, FromZero, orders, rounds}
 use Rattle.laws.proofs.ChoiceLaws.{and-true}
+use Rattle.laws.proofs.InLaws.{In, top, down, in-some, in-either, in-map, map-in, in-each, each-in, in-rising, rising-in, Up, up-rising, up-in}
 use Rattle.laws.proofs.RisingLaws.{every-rising, rising-every, rising-length}
 use Rattle.laws.proofs.TallyLaws.{one-other, one-same}
 use Rattle.laws.proofs.WithoutLaws.{without-in, up-without, without-other, without-first, length-without, without-length, without-tally-other}
-use Rattle.laws.proofs.InLaws.{In, top, down, in-some, in-either, in-map, map-in, in-each, each-in, in-rising, rising-in, Up, up-rising, up-in}
 
 -- o goes through each of l once
 pub data Order : List Stop → List Stop → Type 0 where

@@ -1,5 +1,5 @@
 -- 01, 12: the start round goes on, always, to the lowest of the nearest stops that are left.
-use Prim.Native.Nat.{ℕ, zero, suc, _+_, _*_, _≤_, _<_}
+use Prim.Native.Nat.{ℕ, zero, suc, _+_, _≤_, _<_}
 use mathlib.Core.Path.{_≡_, refl, sym, ap, _∙_}
 use mathlib.Core.Bool.{Bool, true, false}
 use mathlib.Core.List.{List, _∷_}
@@ -7,13 +7,12 @@ use mathlib.Core.Logic.{_⊎_, inl, inr, ⊎-elim, _≢_}
 use native.Mathlib.Omega.{arith}
 use native.Mathlib.Decide.{decLt, ℕ-discrete}
 use lib.ListN.{length}
-use borrow.Author.Tests.{lt-ltb, le-ltb, le-leb, lt-leb, eq-eqb, ne-eqb}
-use Rattle.rules.specs.Words.{Stop, Time, Round, Legs}
+use Rattle.rules.specs.Words.{Stop, Time, Legs}
 use Rattle.rules.specs.Lists.{rising, keep}
 use Rattle.rules.specs.Start.{nearest, without, startFrom}
-use Rattle.rules.specs.Numbers.{verdict, within, startNumber}
 use Rattle.laws.proofs.ChoiceLaws.{either}
 use Rattle.laws.proofs.InLaws.{keep-no, keep-yes}
+use Rattle.laws.proofs.NearestLaws.{nearer, farther}
 use Rattle.laws.proofs.WithoutLaws.{without-other, without-same}
 
 -- the stops that pass, of `count` from stop a on
@@ -28,16 +27,6 @@ module _ (p : Stop → Bool) (count a : ℕ) where
   pub passing-no : p a ≡ false → passing p (suc count) a ≡ passing p count (a + 1)
   unfolding passing rising
   passing-no = keep-no p a (rising count (a + 1))
-
--- of two stops the nearer, and the first of two that are as near
-module _ (f : Stop → Time) (so v : Stop) (vs : List Stop) where
-  pub nearer : f v < f so → nearest f so (v ∷ vs) ≡ nearest f v vs
-  unfolding nearest
-  nearer h = simp (lt-ltb (f v) (f so) h)
-
-  pub farther : f so ≤ f v → nearest f so (v ∷ vs) ≡ nearest f so vs
-  unfolding nearest
-  farther h = simp (le-ltb (f v) (f so) h)
 
 -- of the stops below n that pass none is nearer than k, and those before it are farther
 module _ (f : Stop → Time) (p : Stop → Bool) (n k : ℕ) (below : k < n) (passes : p k ≡ true)
@@ -176,44 +165,3 @@ pub all-pass : (p : Stop → Bool) (count a : ℕ) → ((v : Stop) → a ≤ v �
 unfolding passing keep rising
 all-pass p zero a h = refl
 all-pass p (suc count) a h = passing-yes p count a (h a (omega arith)) ∙ ap (λ (l : List Stop). a ∷ l) (all-pass p count (a + 1) (λ v low. h v (omega arith)))
-
--- the start round's number: 1, then 3
-module _ (n : ℕ) (matrix : List Time) (round : Round) where
-  pub start-none : n < 1 → startNumber n matrix round ≡ 1
-  unfolding startNumber verdict within
-  start-none h = simp (lt-leb 1 n h)
-
-  pub start-many : 4096 < n → startNumber n matrix round ≡ 1
-  unfolding startNumber verdict within
-  start-many h = let some : 1 ≤ n = omega arith in simp (le-leb 1 n some, lt-leb n 4096 h)
-
-  module _ (some : 1 ≤ n) (few : n ≤ 4096) where
-    pub start-odd-matrix : length matrix ≢ n * n → startNumber n matrix round ≡ 3
-    unfolding startNumber verdict within
-    start-odd-matrix h = simp (le-leb 1 n some, le-leb n 4096 few, ne-eqb (length matrix) (n * n) h)
-
-    module _ (cells : length matrix ≡ n * n) where
-      pub start-odd-round : length round ≢ n → startNumber n matrix round ≡ 3
-      unfolding startNumber verdict within
-      start-odd-round h = simp (le-leb 1 n some, le-leb n 4096 few, eq-eqb (length matrix) (n * n) cells, ne-eqb (length round) n h)
-
-      pub start-fits : length round ≡ n → startNumber n matrix round ≡ 0
-      unfolding startNumber verdict within
-      start-fits h = simp (le-leb 1 n some, le-leb n 4096 few, eq-eqb (length matrix) (n * n) cells, eq-eqb (length round) n h)
-
-  -- what 0 says
-  pub record Fits : Type 0 where
-    pub some : 1 ≤ n
-    pub few : n ≤ 4096
-    pub cells : length matrix ≡ n * n
-    pub long : length round ≡ n
-
-  pub start-zero : startNumber n matrix round ≡ 0 → Fits
-  start-zero z = go (decLt n 1) (decLt 4096 n) (ℕ-discrete (length matrix) (n * n)) (ℕ-discrete (length round) n)
-    where
-      go : Dec (n < 1) → Dec (4096 < n) → Dec (length matrix ≡ n * n) → Dec (length round ≡ n) → Fits
-      go (yes h) b c d = absurd (omega (arith, start-none h))
-      go (no h) (yes b) c d = absurd (omega (arith, start-many b))
-      go (no h) (no b) (no c) d = absurd (omega (arith, start-odd-matrix (omega arith) (omega arith) c))
-      go (no h) (no b) (yes c) (no d) = absurd (omega (arith, start-odd-round (omega arith) (omega arith) c d))
-      go (no h) (no b) (yes c) (yes d) = record { some = omega arith; few = omega arith; cells = c; long = d }

@@ -1,5 +1,5 @@
 -- The queue on its ring of words: one stop more behind, one less in front.
-use Prim.Native.Nat.{ℕ, zero, suc, _+_, _-_, _≤_, _<_}
+use Prim.Native.Nat.{ℕ, suc, _+_, _-_, _≤_, _<_}
 use mathlib.Core.Path.{_≡_, refl, sym, ap, _∙_, subst}
 use mathlib.Core.Bool.{true, false}
 use mathlib.Core.List.{List, [], _∷_, _++_}
@@ -7,7 +7,7 @@ use native.Mathlib.Omega.{arith}
 use native.Mathlib.Decide.{decLt}
 use native.Mathlib.Numerals.{add-one}
 use lib.ListN.{length, set, length-set, length-append, List·getD-append}
-use lib.Seq.{length-take-le, take-suc-set, getD-take, getD-at, ext-getD}
+use lib.Seq.{take-suc-set, getD-take, getD-at}
 use Rattle.rules.specs.Words.{Stop, Place}
 use Rattle.rules.specs.Lists.{at, has, tally}
 use Rattle.rules.specs.Ring.{next, turn}
@@ -15,17 +15,12 @@ use Rattle.rules.specs.Queue.{push, waiting, flagsOf}
 use Rattle.laws.proofs.EveryLaws.{at-below}
 use Rattle.laws.proofs.PlaceLaws.{next-below}
 use Rattle.laws.proofs.QueueLaws.{once-room, push-new, single-push, single-take, tally-once}
-use Rattle.laws.proofs.WaitLaws.{flag-down, flag-up, flagsOf-length, flagsOf-push, flagsOf-take}
+use Rattle.laws.proofs.WaitLaws.{flag-down, flag-up, flagsOf-length, flagsOf-push, flagsOf-take, waiting-length, waiting-take}
 use Rattle.ring.specs.Around.{around}
 use Rattle.ring.specs.Legs.{Stops}
-use Rattle.ring.proofs.AroundLaws.{around-0, around-around, next-around}
 use Rattle.laws.proofs.TurnLaws.{turn-length}
 use Rattle.ring.proofs.TurnAtLaws.{at-turn, set-turn}
 use Rattle.queue.specs.Lines.{InLine, Waits, Took}
-
-pub length-waiting : (queue : List ℕ) (head : Place) (count : ℕ) → count ≤ length queue → length (waiting queue head count) ≡ count
-unfolding waiting
-length-waiting queue head count h = length-take-le count (turn head queue) (omega (arith, turn-length head queue))
 
 -- who waits i places behind the first
 pub at-waiting : (queue : List ℕ) (head : Place) (count i : ℕ) → head < length queue → count ≤ length queue → i < count
@@ -61,7 +56,7 @@ module _ (queue flags : List ℕ) (head : Place) (count : ℕ) (i : InLine queue
   pub line-room : (v : Stop) → v < length queue → has (waiting queue head count) v ≡ false → count < length queue
   line-room v h gone =
       let r = once-room (length queue) (waiting queue head count) v (tally-once (waiting queue head count) (i .single)) (at-below (length queue) (waiting queue head count) (i .stops .below)) h gone in
-      omega (arith, length-waiting queue head count (i .room))
+      omega (arith, waiting-length queue head count (i .room))
 
   pub line-pushed : (v : Stop) → v < length queue → has (waiting queue head count) v ≡ false
       → Waits (push (waiting queue head count) v) head (set queue (around (length queue) head count) v) (set flags v 1) head (count + 1)
@@ -87,27 +82,12 @@ module _ (queue flags : List ℕ) (head : Place) (count : ℕ) (i : InLine queue
   -- ---- one less
   waiting-less : 0 < count → waiting queue head count ≡ at queue head ∷ waiting queue (next (length queue) head) (count - 1)
   waiting-less h =
-      let n : ℕ = length queue in
-      let hn : next n head < n = next-below n head (i .start) in
-      let c : count - 1 ≤ n = omega (arith, i .room) in
-      let l : length (waiting queue head count) ≡ count = length-waiting queue head count (i .room) in
-      let l′ : length (waiting queue (next n head) (count - 1)) ≡ count - 1 = length-waiting queue (next n head) (count - 1) c in
-      ext-getD 0 (waiting queue head count) (at queue head ∷ waiting queue (next n head) (count - 1)) (omega arith) (λ k g. go k (omega arith) hn c)
-    where
-      go : (k : ℕ) → k < count → next (length queue) head < length queue → count - 1 ≤ length queue
-          → at (waiting queue head count) k ≡ at (at queue head ∷ waiting queue (next (length queue) head) (count - 1)) k
-      go zero g hn c = at-waiting queue head count 0 (i .start) (i .room) g ∙ ap (at queue) (around-0 (length queue) head (i .start))
-      go (suc k) g hn c =
-          let n : ℕ = length queue in
-          let s : next n head ≡ around n head 1 = ap (next n) (sym (around-0 n head (i .start))) ∙ next-around n head 0 (i .start) (omega (arith, i .room)) in
-          let e : around n (next n head) k ≡ around n head (1 + k) = ap (λ (m : ℕ). around n m k) s ∙ around-around n head 1 k (i .start) (omega (arith, i .room)) in
-          let q : 1 + k ≡ suc k = omega arith in
-          at-waiting queue head count (suc k) (i .start) (i .room) g ∙ ap (at queue) (sym (e ∙ ap (around n head) q))
-          ∙ sym (at-waiting queue (next n head) (count - 1) k hn c (omega arith))
+      let q : count ≡ count - 1 + 1 = omega arith in
+      ap (waiting queue head) q ∙ waiting-take queue head (count - 1) (i .start) (omega (arith, i .room))
 
   pub first-below : 0 < count → at queue head < length queue
   first-below h =
-      let l : length (waiting queue head count) ≡ count = length-waiting queue head count (i .room) in
+      let l : length (waiting queue head count) ≡ count = waiting-length queue head count (i .room) in
       let e : at (waiting queue head count) 0 ≡ at queue head = ap (λ (x : List Stop). at x 0) (waiting-less h) in
       omega (arith, i .stops .below 0 (omega arith))
 

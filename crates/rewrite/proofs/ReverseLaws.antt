@@ -101,17 +101,6 @@ exchanges-starts s k xs hs h1 hk =
     let q : s + (k - 1) ≡ s + k - 1 = omega arith in
     (λ i. exchanges (k / 2) n (sym (around-0 n s hs) i) (wrapped n (sym q i)) xs) ∙ w
 
--- fewer than two places: nothing moves
-pub reverse-short : (s k : ℕ) (xs : List ℕ) → s < length xs → k < 2 → reverseAt s k xs ≡ xs
-unfolding reverseAt from reverseFront
-reverse-short s k xs hs h = ap (turn (length xs - s)) (go k (turn s xs) h) ∙ turn-back s xs (omega arith)
-  where
-    go : (k : ℕ) (ys : List ℕ) → k < 2 → reverse (take k ys) ++ drop k ys ≡ ys
-    go zero ys h = refl
-    go (suc zero) [] h = refl
-    go (suc zero) (y ∷ ys) h = refl
-    go (suc (suc k)) ys h = absurd (omega arith)
-
 -- a turn
 pub exchanges-turn : (k n i j : ℕ) (xs goal : List ℕ) → 0 < k → exchanges k n i j xs ≡ goal → exchanges (k - 1) n (next n i) (prev n j) (swapAt i j xs) ≡ goal
 exchanges-turn zero n i j xs goal h e = absurd (omega arith)
