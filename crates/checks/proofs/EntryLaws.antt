@@ -11,7 +11,8 @@ use lib.Dec.{ltb, leb}
 use Rattle.rules.specs.Lists.{at}
 use Rattle.rules.specs.Journal.{inRange, entryAt}
 use Rattle.laws.proofs.ChoiceLaws.{and-true, not-so}
-use Rattle.laws.proofs.JournalWordLaws.{entry-reversal, entry-rotation, entry-swap, reversal-in, rotation-in, swap-in}
+use Rattle.laws.proofs.JournalWordLaws.{entry-reversal, entry-rotation, entry-swap}
+use Rattle.laws.proofs.RangeLaws.{reversal-in, rotation-in, swap-in}
 
 module _ (n : ℕ) (ws : List ℕ) (i : ℕ) where
   pub start-beyond : n ≤ at ws (5 * i + 1) → false ≡ (leb (at ws (5 * i)) 2 && inRange n (entryAt ws i))

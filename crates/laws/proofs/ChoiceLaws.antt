@@ -47,6 +47,7 @@ pub true-and : (a b : Bool) → a ≡ true → b ≡ true → (a && b) ≡ true
 true-and true b e f = f
 true-and false b e f = e
 
+-- and the other way
 pub and-true : (a b : Bool) → (a && b) ≡ true → (a ≡ true) × (b ≡ true)
 and-true true b e = (refl, e)
 and-true false b e = absurd (true-false (sym e))

@@ -26,6 +26,7 @@ pub mod OrderLaws
 pub mod PermLaws
 pub mod PlaceLaws
 pub mod QueueLaws
+pub mod RangeLaws
 pub mod ReadLaws
 pub mod RewriteLaws
 pub mod RisingLaws

@@ -56,6 +56,7 @@ pub single-gone : (v : Stop) (q : List Stop) → ((u : Stop) → tally (v ∷ q)
 unfolding tally
 single-gone v q s = not-so (has q v) (λ e. omega (arith, s v, one-same (refl {a = v}), has-tally q v e))
 
+-- so nobody waits twice
 pub tally-once : (q : List Stop) → ((v : Stop) → tally q v ≤ 1) → once q ≡ true
 unfolding once tally
 tally-once [] h = refl

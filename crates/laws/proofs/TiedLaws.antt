@@ -1,4 +1,5 @@
--- 01, number 7, "places its inverse": the round determines its places, and stops are read off them.
+-- 01, number 7, "places its inverse": the round determines its places, stops are read off them, and an exchange of two stops in both keeps
+-- them tied.
 use Prim.Native.Nat.{_<_, _≤_, suc, ℕ}
 use mathlib.Core.Path.{_∙_, _≡_, ap, subst, sym}
 use mathlib.Core.Logic.{_≢_}

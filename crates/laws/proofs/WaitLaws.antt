@@ -24,12 +24,11 @@ unfolding waiting
 waiting-length ws head count h = length-take-le count (turn head ws) (omega (arith, turn-length head ws))
 
 -- a stop is pushed: its word is written behind those that wait
-pub waiting-push : (ws : List ℕ) (head : Place) (count : ℕ) (v : Stop) → head < length ws → count < length ws
-    → waiting (set ws ((head + count) % length ws) v) head (count + 1) ≡ waiting ws head count ++ (v ∷ [])
+pub waiting-push : (ws : List ℕ) (head : Place) (count : ℕ) (p : Place) (v : Stop) → head < length ws → count < length ws → On (length ws) head count p
+    → waiting (set ws p v) head (count + 1) ≡ waiting ws head count ++ (v ∷ [])
 unfolding waiting
-waiting-push ws head count v hh hc =
-    let p = (head + count) % length ws in
-    let e : turn head (set ws p v) ≡ set (turn head ws) count v = turn-set head count p v ws (omega arith) hc (on-mod (length ws) head count hh hc) in
+waiting-push ws head count p v hh hc o =
+    let e : turn head (set ws p v) ≡ set (turn head ws) count v = turn-set head count p v ws (omega arith) hc o in
     rw (add-one count, e) (take-suc-set (turn head ws) count v (omega (arith, turn-length head ws)))
 
 -- the first is taken: the head moves on
@@ -72,6 +71,7 @@ pub flagsOf-at : (n : ℕ) (q : List Stop) (v : Stop) → v < n → at (flagsOf 
 unfolding flagsOf
 flagsOf-at n q v h = table-at (flag q) n v h
 
+-- down, he does not; up, he does
 pub flag-down : (n : ℕ) (q : List Stop) (v : Stop) → v < n → at (flagsOf n q) v ≡ 0 → has q v ≡ false
 flag-down n q v h e = go (has q v) (sym (flagsOf-at n q v h) ∙ e)
   where

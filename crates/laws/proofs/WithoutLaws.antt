@@ -1,8 +1,8 @@
 -- The stops of a list but one, as start rounds and orders leave them.
 use Prim.Native.Nat.{_+_, _<_, _≤_, suc, ℕ}
 use mathlib.Core.Path.{_∙_, _≡_, ap, refl, sym}
-use mathlib.Core.Logic.{_≢_}
-use mathlib.Core.Bool.{not}
+use mathlib.Core.Logic.{_⊎_, _≢_, inl, inr}
+use mathlib.Core.Bool.{Bool, false, not, true}
 use mathlib.Core.List.{List, [], _∷_}
 use native.Mathlib.Decide.{ℕ-discrete}
 use native.Mathlib.Omega.{arith}
@@ -12,7 +12,7 @@ use borrow.Author.Tests.{eq-eqb, eqb-false, eqb-true, ne-eqb, not-false, not-tru
 use Rattle.rules.specs.Lists.{keep, one, tally}
 use Rattle.rules.specs.Start.{without}
 use Rattle.rules.specs.Words.{Stop}
-use Rattle.laws.proofs.ChoiceLaws.{either-if}
+use Rattle.laws.proofs.ChoiceLaws.{either, either-if}
 use Rattle.laws.proofs.InLaws.{In, Up, down, in-some, keep-in, keep-no, keep-yes, top, up-in, up-keep}
 use Rattle.laws.proofs.TallyLaws.{one-other, one-same}
 
@@ -61,6 +61,20 @@ least-first k (x ∷ l) u h =
     heads : In k (x ∷ l) → x ≡ k
     heads h = omega (arith, u .0, up-in x (omega arith, u .1) h)
 least-first k [] u h = absurd (omega (arith, in-some h))
+
+-- q passes what p does, but for k: the stops that p keeps, without k
+module _ (p q : Stop → Bool) (k : Stop) (gone : q k ≡ false) (others : (v : Stop) → v ≢ k → q v ≡ p v) where
+  pub keep-without : (l : List Stop) → without k (keep p l) ≡ keep q l
+  unfolding without keep
+  keep-without [] = refl
+  keep-without (x ∷ l) = go (keep-without l) (ℕ-discrete x k) (either (p x))
+    where
+      go : without k (keep p l) ≡ keep q l → Dec (x ≡ k) → (p x ≡ true) ⊎ (p x ≡ false) → without k (keep p (x ∷ l)) ≡ keep q (x ∷ l)
+      go on (yes e) (inl y) = ap (without k) (keep-yes p x l y) ∙ without-same k x (keep p l) e ∙ on ∙ sym (keep-no q x l (ap q e ∙ gone))
+      go on (yes e) (inr z) = ap (without k) (keep-no p x l z) ∙ on ∙ sym (keep-no q x l (ap q e ∙ gone))
+      go on (no e) (inl y) =
+          ap (without k) (keep-yes p x l y) ∙ without-other k x (keep p l) e ∙ ap (λ (r : List Stop). x ∷ r) on ∙ sym (keep-yes q x l (others x e ∙ y))
+      go on (no e) (inr z) = ap (without k) (keep-no p x l z) ∙ on ∙ sym (keep-no q x l (others x e ∙ z))
 
 -- ---- how often each is there
 -- the one is gone

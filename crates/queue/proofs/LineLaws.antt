@@ -5,9 +5,8 @@ use mathlib.Core.Bool.{true, false}
 use mathlib.Core.List.{List, [], _∷_, _++_}
 use native.Mathlib.Omega.{arith}
 use native.Mathlib.Decide.{decLt}
-use native.Mathlib.Numerals.{add-one}
 use lib.ListN.{length, set, length-set, length-append, List·getD-append}
-use lib.Seq.{take-suc-set, getD-take, getD-at}
+use lib.Seq.{getD-take, getD-at}
 use Rattle.rules.specs.Words.{Stop, Place}
 use Rattle.rules.specs.Lists.{at, has, tally}
 use Rattle.rules.specs.Ring.{next, turn}
@@ -15,11 +14,11 @@ use Rattle.rules.specs.Queue.{push, waiting, flagsOf}
 use Rattle.laws.proofs.EveryLaws.{at-below}
 use Rattle.laws.proofs.PlaceLaws.{next-below}
 use Rattle.laws.proofs.QueueLaws.{once-room, push-new, single-push, single-take, tally-once}
-use Rattle.laws.proofs.WaitLaws.{flag-down, flag-up, flagsOf-length, flagsOf-push, flagsOf-take, waiting-length, waiting-take}
+use Rattle.laws.proofs.WaitLaws.{flag-down, flag-up, flagsOf-length, flagsOf-push, flagsOf-take, waiting-length, waiting-push, waiting-take}
 use Rattle.ring.specs.Around.{around}
 use Rattle.ring.specs.Legs.{Stops}
-use Rattle.laws.proofs.TurnLaws.{turn-length}
-use Rattle.ring.proofs.TurnAtLaws.{at-turn, set-turn}
+use Rattle.ring.proofs.AroundLaws.{on}
+use Rattle.ring.proofs.TurnAtLaws.{at-turn}
 use Rattle.queue.specs.Lines.{InLine, Waits, Took}
 
 -- who waits i places behind the first
@@ -29,12 +28,6 @@ unfolding waiting
 at-waiting queue head count i hh hc hi = getD-take count (turn head queue) i 0 hi ∙ at-turn head i queue hh (omega arith)
 
 -- ---- one more
-waiting-more : (queue : List ℕ) (head : Place) (count v : ℕ) → head < length queue → count < length queue
-    → waiting (set queue (around (length queue) head count) v) head (count + 1) ≡ waiting queue head count ++ (v ∷ [])
-unfolding waiting
-waiting-more queue head count v h g =
-    rw (add-one count, set-turn head count v queue h g) (take-suc-set (turn head queue) count v (omega (arith, turn-length head queue)))
-
 stops-more : (q : List Stop) (v n : ℕ) → Stops q n → v < n → Stops (q ++ (v ∷ [])) n
 stops-more q v n s h = record { below = λ i g. go i g (decLt i (length q)) }
   where
@@ -65,7 +58,7 @@ module _ (queue flags : List ℕ) (head : Place) (count : ℕ) (i : InLine queue
       let q : List Stop = waiting queue head count in
       let r : count < n = line-room v h gone in
       let l : length (set queue (around n head count) v) ≡ n = length-set queue (around n head count) v in
-      let w : waiting (set queue (around n head count) v) head (count + 1) ≡ q ++ (v ∷ []) = waiting-more queue head count v (i .start) r in
+      let w : waiting (set queue (around n head count) v) head (count + 1) ≡ q ++ (v ∷ []) = waiting-push queue head count (around n head count) v (i .start) r (on n head count) in
       record {
         is = w ∙ sym (push-new q v gone);
         head-is = refl;

@@ -5,7 +5,7 @@ use lib.ListN.{length, take}
 use mathlib.Core.Path.{_≡_, _∙_}
 use native.Mathlib.Omega.{arith}
 use Rattle.rules.specs.Journal.{reversal, wordsOf, trackOf, carryOut}
-use Rattle.laws.proofs.JournalWordLaws.{in-reversal}
+use Rattle.laws.proofs.RangeLaws.{in-reversal}
 use Rattle.laws.proofs.RewriteLaws.{reverseAt-short}
 use Rattle.laws.proofs.StretchLaws.{reversing-short, reversing-long}
 use Rattle.journal.proofs.MoveLaws.{moved-one, moved-none}
