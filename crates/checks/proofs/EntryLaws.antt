@@ -10,12 +10,13 @@ use borrow.Author.Tests.{lt-ltb, lt-leb}
 use lib.Dec.{ltb, leb}
 use Rattle.rules.specs.Lists.{at}
 use Rattle.rules.specs.Journal.{inRange, entryAt}
-use Rattle.laws.proofs.RingRisingLaws.{both-true, not-so}
-use Rattle.laws.proofs.JournalWordLaws.{entry-reversal, entry-rotation, entry-swap, reversal-in, rotation-in, swap-in}
+use Rattle.laws.proofs.ChoiceLaws.{and-true, not-so}
+use Rattle.laws.proofs.JournalWordLaws.{entry-reversal, entry-rotation, entry-swap}
+use Rattle.laws.proofs.RangeLaws.{reversal-in, rotation-in, swap-in}
 
 module _ (n : ℕ) (ws : List ℕ) (i : ℕ) where
   pub start-beyond : n ≤ at ws (5 * i + 1) → false ≡ (leb (at ws (5 * i)) 2 && inRange n (entryAt ws i))
-  start-beyond h = sym (not-so (leb (at ws (5 * i)) 2 && inRange n (entryAt ws i)) (λ e. go (both-true (leb (at ws (5 * i)) 2) (inRange n (entryAt ws i)) e .1) (ℕ-discrete (at ws (5 * i)) 0) (ℕ-discrete (at ws (5 * i)) 1)))
+  start-beyond h = sym (not-so (leb (at ws (5 * i)) 2 && inRange n (entryAt ws i)) (λ e. go (and-true (leb (at ws (5 * i)) 2) (inRange n (entryAt ws i)) e .1) (ℕ-discrete (at ws (5 * i)) 0) (ℕ-discrete (at ws (5 * i)) 1)))
     where
       go : inRange n (entryAt ws i) ≡ true → Dec (at ws (5 * i) ≡ 0) → Dec (at ws (5 * i) ≡ 1) → ⊥
       go e (yes k) d = omega (arith, reversal-in n _ _ (rw (entry-reversal ws i k) at e))

@@ -1,5 +1,5 @@
 -- The loops of `mark_waiting` and `flags_marked`, and what they tell of `agree`.
-use Prim.Native.Nat.{ℕ, suc, _+_, _-_, _≤_, _<_}
+use Prim.Native.Nat.{ℕ, _+_, _-_, _≤_, _<_}
 use mathlib.Core.Path.{_≡_, refl, sym, ap, _∙_}
 use mathlib.Core.Bool.{Bool, true, false, _&&_}
 use mathlib.Core.List.{List, [], _∷_, _++_, append-nil}
@@ -15,9 +15,11 @@ use Rattle.rules.specs.Lists.{at, has, once, tally, same, every}
 use Rattle.rules.specs.Ring.{turn, isRound}
 use Rattle.rules.specs.Queue.{waiting, flagsOf}
 use Rattle.rules.specs.Numbers.{agree}
-use Rattle.laws.proofs.RingRisingLaws.{both-true, and-true, true-false, not-so}
-use Rattle.laws.proofs.RingWaitLaws.{single-push, flag-down, flag-up, flags-push, flags-none, tally-split, once-single, single-once, every-below, below-every}
-use Rattle.laws.proofs.RoundCheckLaws.{same-self, same-equal, round-stops}
+use Rattle.laws.proofs.CheckLaws.{same-self, same-is, round-stops}
+use Rattle.laws.proofs.ChoiceLaws.{and-true, true-and, true-false, not-so}
+use Rattle.laws.proofs.EveryLaws.{every-below, below-every}
+use Rattle.laws.proofs.QueueLaws.{push-new, single-push, tally-split, once-tally, tally-once}
+use Rattle.laws.proofs.WaitLaws.{flag-down, flag-up, flagsOf-push, flagsOf-none}
 use Rattle.checks.specs.Marks.{Marked}
 
 -- the first i stops of q are below n, each once, and marked
@@ -43,7 +45,7 @@ module _ (n : ℕ) (q : List Stop) (i : ℕ) (marks : List ℕ) (m : Marking n q
       record {
         below = λ k l. go k l (decLt k i) g;
         single = rw t (single-push (take i q) v (m .single) gone);
-        marks-are = take-set-lt n marks v 1 g ∙ ap (λ (l : List ℕ). set l v 1) (m .marks-are) ∙ flags-push n (take i q) v g ∙ ap (flagsOf n) (sym t);
+        marks-are = take-set-lt n marks v 1 g ∙ ap (λ (l : List ℕ). set l v 1) (m .marks-are) ∙ sym (flagsOf-push n (take i q) v g) ∙ ap (flagsOf n) (push-new (take i q) v gone ∙ sym t);
       }
     where
       go : (k : ℕ) → k < i + 1 → Dec (k < i) → at q i < n → at q k < n
@@ -54,8 +56,8 @@ module _ (n : ℕ) (q : List Stop) (i : ℕ) (marks : List ℕ) (m : Marking n q
   pub marking-beyond : n ≤ at q i → Marked n q false marks
   marking-beyond g =
       record {
-        is = sym (not-so (every (λ v. ltb v n) q && once q) (λ e. omega (arith, every-below n q (both-true (every (λ v. ltb v n) q) (once q) e .0) i h)));
-        marks-are = λ e. absurd (true-false false e refl);
+        is = sym (not-so (every (λ v. ltb v n) q && once q) (λ e. omega (arith, every-below n q (and-true (every (λ v. ltb v n) q) (once q) e .0) i h)));
+        marks-are = λ e. absurd (true-false (sym e));
       }
 
   -- a stop that is marked already
@@ -64,8 +66,8 @@ module _ (n : ℕ) (q : List Stop) (i : ℕ) (marks : List ℕ) (m : Marking n q
       let v : Stop = at q i in
       let up : has (take i q) v ≡ true = flag-up n (take i q) v g (omega (arith, at-mark v g)) in
       record {
-        is = sym (not-so (every (λ v. ltb v n) q && once q) (λ o. twice v up (once-single q (both-true (every (λ v. ltb v n) q) (once q) o .1) v) refl));
-        marks-are = λ e. absurd (true-false false e refl);
+        is = sym (not-so (every (λ v. ltb v n) q && once q) (λ o. twice v up (once-tally q (and-true (every (λ v. ltb v n) q) (once q) o .1) v) refl));
+        marks-are = λ e. absurd (true-false (sym e));
       }
     where
       twice : (v : Stop) → has (take i q) v ≡ true → tally q v ≤ 1 → at q i ≡ v → ⊥
@@ -76,7 +78,7 @@ pub marking-done : (n : ℕ) (q : List Stop) (i : ℕ) (marks : List ℕ) → Ma
 marking-done n q i marks m h =
     let t : take i q ≡ q = take-all i q h in
     record {
-      is = sym (and-true (every (λ v. ltb v n) q) (once q) (below-every n q (λ k g. m .below k (omega arith))) (single-once q (rw t at (m .single))));
+      is = sym (true-and (every (λ v. ltb v n) q) (once q) (below-every n q (λ k g. m .below k (omega arith))) (tally-once q (rw t at (m .single))));
       marks-are = λ e. m .marks-are ∙ ap (flagsOf n) t;
     }
 
@@ -90,7 +92,7 @@ module _ (fs ms : List ℕ) (h : length fs ≤ length ms) where
 
   pub front-differs : (k : ℕ) → k < length fs → (at fs k ≡ at ms k → ⊥) → false ≡ same fs (take (length fs) ms)
   front-differs k g d =
-      sym (not-so (same fs (take (length fs) ms)) (λ e. d (ap (λ (l : List ℕ). at l k) (same-equal fs (take (length fs) ms) e) ∙ getD-take (length fs) ms k 0 g)))
+      sym (not-so (same fs (take (length fs) ms)) (λ e. d (ap (λ (l : List ℕ). at l k) (same-is fs (take (length fs) ms) e) ∙ getD-take (length fs) ms k 0 g)))
 
 -- ---- queue and flags
 module _ (n : ℕ) (queue flags : List ℕ) (head : Place) (count : ℕ) where
@@ -120,7 +122,7 @@ pub clear-marks : (n m : ℕ) → n ≤ m → take n (replicate m 0) ≡ flagsOf
 clear-marks n m h =
     let q : m ≡ n + (m - n) = omega arith in
     ap (λ (k : ℕ). take n (replicate k 0)) q ∙ ap (take n) (sym (replicate-append-replicate n (m - n) 0))
-    ∙ take-at (replicate n 0) (replicate (m - n) 0) n (length-replicate n 0) ∙ sym (flags-none n)
+    ∙ take-at (replicate n 0) (replicate (m - n) 0) n (length-replicate n 0) ∙ sym (flagsOf-none n)
 
 -- ---- a whole round, read as a queue from place 0
 pub whole-round : (r : List Stop) (good : Bool) (marks : List ℕ) → Marked (length r) (waiting r 0 (length r)) good marks → good ≡ isRound (length r) r

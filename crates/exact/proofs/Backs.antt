@@ -12,7 +12,7 @@ use Rattle.rules.specs.Lists.{rising}
 use Rattle.rules.specs.Plan.{legIn}
 use Rattle.rules.specs.Table.{members}
 use Rattle.laws.proofs.RisingLaws.{rising-length}
-use Rattle.laws.proofs.InLaws.{length-without}
+use Rattle.laws.proofs.WithoutLaws.{length-without}
 use Rattle.laws.proofs.SetLaws.{in-members, member-fits, members-up, members-less, members-none, members-full}
 use Rattle.laws.proofs.ExactLaws.{homeward, homeward-on, homeward-none}
 use Rattle.laws.proofs.OnwardLaws.{wayOn}

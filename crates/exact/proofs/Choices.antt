@@ -10,7 +10,8 @@ use Rattle.rules.specs.Start.{nearest, without}
 use Rattle.rules.specs.Table.{members}
 use Rattle.laws.proofs.InLaws.{In, Up}
 use Rattle.laws.proofs.SetLaws.{members-up, members-in, members-less, members-none}
-use Rattle.laws.proofs.OnwardLaws.{onward, Nearest, nearest-is, nearest-same, nearer, farther, wayOn}
+use Rattle.laws.proofs.NearestLaws.{Nearest, nearest-is, nearest-same, nearer, farther}
+use Rattle.laws.proofs.OnwardLaws.{onward, wayOn}
 use Rattle.laws.proofs.TableLaws.{word-in}
 use Rattle.exact.specs.Inner.{Lowest, Rest, Via, Choice}
 use Rattle.exact.proofs.Cells.{onBy, opens, rest-less, members-some}

@@ -7,8 +7,8 @@ use native.Mathlib.Nat.{add-zero}
 use lib.ListN.{length, take, length-append, length-take, length-reverse}
 use lib.Seq.{take-nil, take-take, take-at, take-append-add, take-append-seam, append-snoc, length-take-le}
 use Rattle.rules.specs.Lists.{each}
-use Rattle.rules.specs.Journal.{Entry, reversal, rotation, swap, wordsOf, entriesOf}
-use Rattle.laws.proofs.JournalWordLaws.{entries-same, entries-more}
+use Rattle.rules.specs.Journal.{Entry, wordsOf, entriesOf}
+use Rattle.laws.proofs.JournalWordLaws.{entries-same, entries-more, length-words}
 use Rattle.journal.specs.Journalled.{Grew}
 
 pub grew-self : (ws : List ℕ) (held : ℕ) → Grew ws held ws held
@@ -29,12 +29,6 @@ grew-grew {us} {a = a} g h =
       words = h .words ∙ ap (λ (l : List ℕ). l ++ each wordsOf (h .newer)) (g .words) ∙ append-assoc (take (5 * a) us) (each wordsOf (g .newer)) (each wordsOf (h .newer))
           ∙ ap (λ (l : List ℕ). take (5 * a) us ++ l) (sym (each-append (g .newer) (h .newer)));
     }
-
-length-words : (e : Entry) → length (wordsOf e) ≡ 5
-unfolding wordsOf
-length-words (reversal s l) = refl
-length-words (rotation s a b c) = refl
-length-words (swap p q) = refl
 
 -- so many entries are five times as many words
 each-take : (k : ℕ) (es : List Entry) → take (5 * k) (each wordsOf es) ≡ each wordsOf (take k es)

@@ -8,10 +8,10 @@ use lib.ListN.{length, take, drop, set, length-append}
 use lib.Seq.{sets, sets-eq, take-at, length-take-le}
 use Rattle.rules.specs.Words.{Place, Round}
 use Rattle.rules.specs.Lists.{each}
-use Rattle.rules.specs.Journal.{Track, Entry, wordsOf, inRange, entryAt, carryOut, takeBack, trackOf, doing, rollback}
+use Rattle.rules.specs.Journal.{Track, Entry, wordsOf, inRange, entryAt, entriesOf, carryOut, takeBack, trackOf, doing, rollback}
 use Rattle.rules.specs.Contracts.{Tied}
 use Rattle.laws.proofs.JournalWordLaws.{entries-more, good-more}
-use Rattle.laws.proofs.TrackStepLaws.{rollback-step}
+use Rattle.laws.proofs.JournalLaws.{entriesOf-length, rollback-step}
 use Rattle.journal.specs.Journalled.{Journalled, Moved}
 use Rattle.journal.proofs.GrewLaws.{grew-self}
 
@@ -60,6 +60,8 @@ moved-none r j held r′ ps′ g is tied =
 -- a turn of `rollback`: `left` entries past the mark are still to go
 pub back-turn : (r r′ : Round) (ws : List ℕ) (mark left : ℕ) (goal : Track) → 0 < left → r′ ≡ takeBack (entryAt ws (mark + (left - 1))) r
     → rollback mark (trackOf r ws (mark + left)) ≡ goal → rollback mark (trackOf r′ ws (mark + (left - 1))) ≡ goal
+unfolding trackOf entriesOf
 back-turn r r′ ws mark left goal h is e =
+    let k : ℕ = mark + (left - 1) in
     let q : mark + left ≡ suc (mark + (left - 1)) = omega arith in
-    rw is (sym (rollback-step r ws (mark + (left - 1)) mark (omega arith)) ∙ (rw q at e))
+    rw is (sym (rollback-step mark (entryAt ws k) (entriesOf ws k) r (omega (arith, entriesOf-length ws k))) ∙ (rw q at e))

@@ -1,29 +1,31 @@
--- 01, "Answer numbers", 5 to 7: what the checks give, as the premises of the laws.
+-- 01, "Answer numbers", 5 to 7: what the checks give, as the premises of the laws, and what passes them.
 use Prim.Native.Nat.{_*_, _<_, _≤_, suc, zero, ℕ}
-use mathlib.Core.Path.{_≡_, ap₂, refl, subst, sym}
-use mathlib.Core.Bool.{Bool, _&&_, not, true}
+use mathlib.Core.Path.{_∙_, _≡_, ap, ap₂, refl, subst, sym}
+use mathlib.Core.Bool.{_&&_, not, true}
 use mathlib.Core.List.{List, [], _∷_}
 use native.Mathlib.Omega.{arith}
 use lib.Dec.{eqb, leb, ltb}
 use lib.ListN.{length}
-use borrow.Author.Tests.{eqb-false, eqb-true, leb-true, ltb-true, not-true}
+use borrow.Author.Tests.{eq-eqb, eqb-false, eqb-true, leb-true, ltb-true, not-true}
 use Rattle.rules.specs.Contracts.{Tied}
 use Rattle.rules.specs.Journal.{entriesOf, entryAt, goodJournal, inRange, trackOf}
-use Rattle.rules.specs.Lists.{at, every, once, rising, same}
+use Rattle.rules.specs.Lists.{every, once, rising, same}
 use Rattle.rules.specs.Memory.{Carried, Lent, planIn, stateIn}
 use Rattle.rules.specs.Numbers.{agree, goodList, goodState, symmetric}
 use Rattle.rules.specs.Plan.{Plan, alphaOf, legOf, nearOf}
 use Rattle.rules.specs.Queue.{flagsOf, waiting}
 use Rattle.rules.specs.Ring.{isRound, placesOf, recount}
-use Rattle.rules.specs.Words.{Legs, Place, Stop}
-use Rattle.laws.proofs.ChoiceLaws.{and-true, both-true, true-false}
+use Rattle.rules.specs.Words.{Legs, Place, Round, Stop}
+use Rattle.laws.proofs.ChoiceLaws.{and-true, both-true, equal-tests, true-and, true-false}
 use Rattle.laws.proofs.DescendLaws.{Sound}
 use Rattle.laws.proofs.EvenLaws.{Even}
-use Rattle.laws.proofs.EveryLaws.{Below, all-map, every-all}
+use Rattle.laws.proofs.EveryLaws.{Below, all-map, at-below, below-every, every-all, every-below}
 use Rattle.laws.proofs.GainLaws.{Fit}
-use Rattle.laws.proofs.PermLaws.{round-length, round-perm}
+use Rattle.laws.proofs.JournalWordLaws.{good-each, good-range, good-room}
+use Rattle.laws.proofs.PermLaws.{once-each, perm-at, round-is, round-length, round-perm}
+use Rattle.laws.proofs.QueueLaws.{once-tally, tally-once}
 use Rattle.laws.proofs.RisingLaws.{every-rising}
-use Rattle.laws.proofs.TiedLaws.{round-tied}
+use Rattle.laws.proofs.TiedLaws.{round-tied, tied-places, tied-round}
 use Rattle.laws.proofs.TrialLaws.{GoodList}
 
 -- ---- 5: "matrix not symmetric"
@@ -54,6 +56,31 @@ same-is [] [] e = refl
 same-is [] (y ∷ b) e = absurd (true-false (sym e))
 same-is (x ∷ a) [] e = absurd (true-false (sym e))
 same-is (x ∷ a) (y ∷ b) e = let g = both-true (eqb x y) (same a b) e in ap₂ (λ h t. h ∷ t) (eqb-true x y (g .0)) (same-is a b (g .1))
+
+pub same-self : (l : List ℕ) → same l l ≡ true
+unfolding same
+same-self [] = refl
+same-self (x ∷ l) = rw (eq-eqb x x refl, same) (same-self l)
+
+-- round and places pass where they are tied, and there alone
+pub passes-tied : (n : ℕ) (r : Round) (places : List Place) → n ≤ 4096 → (isRound n r && same places (placesOf r)) ≡ true → Tied r places
+passes-tied n r places few e =
+    let g = and-true (isRound n r) (same places (placesOf r)) e in
+    subst (Tied r) (sym (same-is places (placesOf r) (g .1))) (round-tied n r (g .0) few)
+
+pub tied-passes : (r : Round) (places : List Place) → Tied r places → (isRound (length r) r && same places (placesOf r)) ≡ true
+tied-passes r places t = true-and (isRound (length r) r) (same places (placesOf r)) (tied-round t) (ap (same places) (sym (tied-places t)) ∙ same-self places)
+
+-- a round is n stops below n, each once
+pub round-stops : (n : ℕ) (r : Round) → length r ≡ n → (every (λ v. ltb v n) r && once r) ≡ isRound n r
+round-stops n r l =
+    equal-tests (every (λ v. ltb v n) r && once r) (isRound n r)
+    (λ e.
+    let g = and-true (every (λ v. ltb v n) r) (once r) e in
+    round-is n r l (once-each n r l (at-below n r (every-below n r (g .0))) (once-tally r (g .1))))
+    (λ e.
+    let p = round-perm n r e in
+    true-and (every (λ v. ltb v n) r) (once r) (below-every n r (λ i h. omega (arith, perm-at r p i h))) (tally-once r p.once))
 
 -- "queue and flags disagree"
 pub record Agrees (n : ℕ) (queue flags : List ℕ) (head : Place) (count : ℕ) : Type 0 where
@@ -87,16 +114,7 @@ entries-ranged n ws zero h = refl
 entries-ranged n ws (suc k) h = rw (h k (omega arith), every) (entries-ranged n ws k (λ i l. h i (omega arith)))
 
 pub goodJournal-ranged : (n : ℕ) (ws : List ℕ) (held : ℕ) → goodJournal n ws held ≡ true → every (inRange n) (entriesOf ws held) ≡ true
-unfolding goodJournal
-goodJournal-ranged n ws held e =
-    let f : ℕ → Bool = λ i. leb (at ws (5 * i)) 2 && inRange n (entryAt ws i) in
-    let g = and-true (leb (5 * held) (length ws)) (every f (rising held 0)) e in
-    entries-ranged n ws held (λ i h. and-true (leb (at ws (5 * i)) 2) (inRange n (entryAt ws i)) (every-rising f held 0 (g .1) i (omega arith) (omega arith)) .1)
-
--- nor more entries held than the room takes
-pub goodJournal-fits : (n : ℕ) (ws : List ℕ) (held : ℕ) → goodJournal n ws held ≡ true → 5 * held ≤ length ws
-unfolding goodJournal
-goodJournal-fits n ws held e = leb-true (5 * held) (length ws) (and-true (leb (5 * held) (length ws)) _ e .0)
+goodJournal-ranged n ws held e = entries-ranged n ws held (λ i h. good-range n ws i (good-each n ws held e i h))
 
 -- a state that passed 7: a round of n stops, tied to its places, its time the recount
 pub record Passed (l : Lent) (c : Carried) : Type 0 where
@@ -116,12 +134,12 @@ goodState-passed l c e =
     let g = and-true (isRound l.n l.round) (same l.places (placesOf l.round)) (f .0) in
     let q = agree-agrees l.n l.queue l.flags c.head c.count (f .1) in
     record {
-      tied = λ few. subst (Tied l.round) (sym (same-is l.places (placesOf l.round) (g .1))) (round-tied l.n l.round (g .0) few);
+      tied = λ few. passes-tied l.n l.round l.places few (f .0);
       sound = record {
         stands = record { perm = round-perm l.n l.round (g .0); size = round-length l.n l.round (g .0); queued = q.stops };
         carried = eqb-true c.time (recount d l.round) (a .1);
       };
       agrees = q;
       ranged = goodJournal-ranged l.n l.journal c.held (b .1);
-      fits = goodJournal-fits l.n l.journal c.held (b .1);
+      fits = good-room l.n l.journal c.held (b .1);
     }

@@ -2,6 +2,7 @@
 use Prim.Native.Nat.{suc, zero, ℕ}
 use mathlib.Core.Path.{_≡_, refl, subst, sym}
 use mathlib.Core.Bool.{Bool, _&&_, _||_, false, not, true}
+use mathlib.Core.Logic.{_⊎_, inl, inr}
 use lib.Dec.{T}
 use Rattle.rules.specs.Lists.{if_then_else_}
 
@@ -21,11 +22,32 @@ module _ {A : Type 0} (Q : A → Type 0) where
   by-gain zero h k = h refl
   by-gain (suc g) h k = k g refl
 
+-- a test holds or fails
+pub either : (b : Bool) → (b ≡ true) ⊎ (b ≡ false)
+either true = inl refl
+either false = inr refl
+
 -- true is not false
 pub true-false : true ≡ false → ⊥
 true-false e = subst T e tt
 
+-- what is not true is false
+pub not-so : (t : Bool) → (t ≡ true → ⊥) → t ≡ false
+not-so true h = absurd (h refl)
+not-so false h = refl
+
+-- two tests that hold together are equal
+pub equal-tests : (a b : Bool) → (a ≡ true → b ≡ true) → (b ≡ true → a ≡ true) → a ≡ b
+equal-tests true b f g = sym (f refl)
+equal-tests false true f g = g refl
+equal-tests false false f g = refl
+
 -- two tests that both hold
+pub true-and : (a b : Bool) → a ≡ true → b ≡ true → (a && b) ≡ true
+true-and true b e f = f
+true-and false b e f = e
+
+-- and the other way
 pub and-true : (a b : Bool) → (a && b) ≡ true → (a ≡ true) × (b ≡ true)
 and-true true b e = (refl, e)
 and-true false b e = absurd (true-false (sym e))

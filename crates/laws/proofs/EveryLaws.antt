@@ -4,7 +4,9 @@ use mathlib.Core.Path.{_≡_, refl}
 use mathlib.Core.Bool.{Bool, true}
 use mathlib.Core.List.{List, [], _++_, _∷_, map}
 use native.Mathlib.Omega.{arith}
+use lib.Dec.{ltb}
 use lib.ListN.{drop, length, take}
+use borrow.Author.Tests.{lt-ltb, ltb-true}
 use Rattle.rules.specs.Lists.{at, each, every, keep, keepWhile}
 use Rattle.rules.specs.Words.{Stop}
 use Rattle.laws.proofs.ChoiceLaws.{both-true, either-if}
@@ -98,3 +100,15 @@ pub below-at : (n : ℕ) (l : List Stop) → Below n l → (i : ℕ) → i < len
 below-at n [] b i h = absurd (omega arith)
 below-at n (x ∷ l) (more k b) zero h = k
 below-at n (x ∷ l) (more k b) (suc i) h = below-at n l b i (omega arith)
+
+-- and the other way
+pub at-below : (n : ℕ) (l : List Stop) → ((i : ℕ) → i < length l → at l i < n) → Below n l
+at-below n [] h = none
+at-below n (x ∷ l) h = more (h 0 (omega arith)) (at-below n l (λ i g. h (suc i) (omega arith)))
+
+-- as a test, place by place
+pub every-below : (n : ℕ) (l : List Stop) → every (λ v. ltb v n) l ≡ true → (i : ℕ) → i < length l → at l i < n
+every-below n l e = below-at n l (all-map l (λ v y. ltb-true v n y) (every-all (λ v. ltb v n) l e))
+
+pub below-every : (n : ℕ) (l : List Stop) → ((i : ℕ) → i < length l → at l i < n) → every (λ v. ltb v n) l ≡ true
+below-every n l h = all-every (λ v. ltb v n) l (all-map l (λ v y. lt-ltb v n y) (at-below n l h))

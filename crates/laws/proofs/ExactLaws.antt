@@ -12,7 +12,8 @@ use Rattle.rules.specs.Lists.{if_then_else_, rising}
 use Rattle.rules.specs.Ring.{along, lap, recount}
 use Rattle.rules.specs.Start.{without}
 use Rattle.rules.specs.Exact.{Before, same, less, more, Exact, rounds, cheapestOf, exactRound}
-use Rattle.laws.proofs.InLaws.{In, top, down, in-some, Up, up-rising, up-in, without-first}
+use Rattle.laws.proofs.InLaws.{In, top, down, in-some, in-past, Up, up-rising, up-in}
+use Rattle.laws.proofs.WithoutLaws.{without-first}
 use Rattle.laws.proofs.OrderLaws.{Order, none, next, order-length, order-self, later, order-round, round-order, before-self, before-before, Sorted, round-in, in-round, rounds-sorted}
 
 -- of two lists of which each stands before the other, or is it, both are one
@@ -117,12 +118,8 @@ module _ (d : Legs) where
 
   -- r was kept of `so` and those after q, and q is no cheaper than `so`
   kept-sooner : (so q : Round) (rs : List Round) (r : Round) → recount d so ≤ recount d q → Before so q → Kept d (so ∷ rs) r → Kept d (so ∷ q ∷ rs) r
-  kept-sooner so q rs r l b k = record { there = put (k .there); low = lo; tie = ti }
+  kept-sooner so q rs r l b k = record { there = in-past q (k .there); low = lo; tie = ti }
     where
-      put : {x s : Round} → In x (s ∷ rs) → In x (s ∷ q ∷ rs)
-      put top = top
-      put (down h) = down (down h)
-
       lo : (x : Round) → In x (so ∷ q ∷ rs) → recount d r ≤ recount d x
       lo x top = k .low so top
       lo x (down top) = omega (arith, k .low so top)

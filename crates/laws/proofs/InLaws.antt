@@ -1,17 +1,14 @@
 -- Elements of a list, and lists of stops that rise.
 use Prim.Native.Nat.{ℕ, zero, suc, _+_, _≤_, _<_}
 use mathlib.Core.Path.{_≡_, refl, sym, ap, subst, _∙_}
-use mathlib.Core.Logic.{_⊎_, inl, inr, ⊎-elim, _≢_}
-use mathlib.Core.Bool.{Bool, true, false, not}
+use mathlib.Core.Logic.{_⊎_, inl, inr, ⊎-elim}
+use mathlib.Core.Bool.{Bool, true, false}
 use mathlib.Core.List.{List, [], _∷_, _++_, map}
 use native.Mathlib.Decide.{ℕ-discrete}
 use native.Mathlib.Omega.{arith}
-use lib.Dec.{eqb}
 use lib.ListN.{length}
-use borrow.Author.Tests.{eq-eqb, ne-eqb, eqb-false, not-true}
 use Rattle.rules.specs.Words.{Stop}
 use Rattle.rules.specs.Lists.{rising, each, keep}
-use Rattle.rules.specs.Start.{without}
 use Rattle.laws.proofs.ChoiceLaws.{either-way, either-if}
 
 -- x is one of a list
@@ -36,6 +33,11 @@ module _ {A : Type 0} where
   in-either [] h = inr h
   in-either (y ∷ l) top = inl top
   in-either (y ∷ l) (down h) = ⊎-elim (λ z. inl (down z)) (λ z. inr z) (in-either l h)
+
+  -- one more behind the first
+  pub in-past : {x s : A} (y : A) {l : List A} → In x (s ∷ l) → In x (s ∷ y ∷ l)
+  in-past y top = top
+  in-past y (down h) = down (down h)
 
   -- what is kept was there and passes
   pub keep-yes : (p : A → Bool) (x : A) (l : List A) → p x ≡ true → keep p (x ∷ l) ≡ x ∷ keep p l
@@ -136,50 +138,3 @@ up-keep p i (v ∷ l) u =
 pub up-in : (i : ℕ) {v : Stop} {l : List Stop} → Up i l → In v l → i ≤ v
 up-in i u top = u .0
 up-in i u (down {y = y} h) = omega (arith, u .0, up-in (suc y) (u .1) h)
-
--- ---- the stops but one
-module _ (v : Stop) where
-  pub without-in : {u : Stop} (l : List Stop) → In u (without v l) → In u l × (u ≢ v)
-  unfolding without
-  without-in {u} l h = let r = keep-in (λ w. not (eqb w v)) l h in (r .0, eqb-false u v (not-true (eqb u v) (r .1)))
-
-  pub up-without : (i : ℕ) (l : List Stop) → Up i l → Up i (without v l)
-  unfolding without
-  up-without i l u = up-keep (λ w. not (eqb w v)) i l u
-
-  pub without-same : (x : Stop) (l : List Stop) → x ≡ v → without v (x ∷ l) ≡ without v l
-  unfolding without
-  without-same x l e = keep-no (λ w. not (eqb w v)) x l (rw (eq-eqb x v e))
-
-  pub without-other : (x : Stop) (l : List Stop) → x ≢ v → without v (x ∷ l) ≡ x ∷ without v l
-  unfolding without
-  without-other x l ne = keep-yes (λ w. not (eqb w v)) x l (rw (ne-eqb x v ne))
-
-  -- a list that rises above v has it not
-  pub without-above : (i : ℕ) (l : List Stop) → Up i l → v < i → without v l ≡ l
-  unfolding without keep
-  without-above i [] u h = refl
-  without-above i (x ∷ l) u h =
-      without-other x l (λ e. omega (arith, u .0)) ∙ ap (λ (r : List Stop). x ∷ r) (without-above (suc x) l (u .1) (omega (arith, u .0)))
-
-  -- the first of a list that rises
-  pub without-first : (l : List Stop) → Up (suc v) l → without v (v ∷ l) ≡ l
-  without-first l u = without-same v l refl ∙ without-above (suc v) l u (omega arith)
-
-  pub length-without : (i : ℕ) {l : List Stop} → Up i l → In v l → length l ≡ suc (length (without v l))
-  length-without i u (top {l = l}) = ap (λ (r : List Stop). suc (length r)) (sym (without-first l (u .1)))
-  length-without i u (down {y = y} {l = l} h) =
-      let k = up-in (suc y) (u .1) h in
-      ap suc (length-without (suc y) (u .1) h) ∙ ap (λ (r : List Stop). suc (length r)) (sym (without-other y l (λ e. omega arith)))
-
--- the least of a list that rises stands first
-pub least-first : (k : Stop) (l : List Stop) → Up k l → In k l → l ≡ k ∷ without k l
-least-first k (x ∷ l) u h =
-    elim (ℕ-discrete x k) [
-      | yes e ↦ ap (λ (v : Stop). v ∷ l) e ∙ ap (λ (r : List Stop). k ∷ r) (sym (without-same k x l e ∙ without-above k (suc x) l (u .1) (omega arith)))
-      | no ne ↦ absurd (ne (heads h))
-    ]
-  where
-    heads : In k (x ∷ l) → x ≡ k
-    heads h = omega (arith, u .0, up-in x (omega arith, u .1) h)
-least-first k [] u h = absurd (omega (arith, in-some h))

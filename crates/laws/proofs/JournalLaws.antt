@@ -4,13 +4,12 @@ use mathlib.Core.Path.{_∙_, _≡_, ap, refl, sym}
 use mathlib.Core.Bool.{true}
 use mathlib.Core.List.{List, [], _++_, _∷_, append-assoc, append-nil}
 use native.Mathlib.Omega.{arith}
-use lib.Dec.{leb, ltb}
 use lib.ListN.{length, length-append}
-use borrow.Author.Tests.{leb-true, ltb-true}
 use Rattle.rules.specs.Journal.{Entry, Track, carryOut, doing, entriesOf, inRange, reversal, rollback, rotation, swap, takeBack, undoAll}
 use Rattle.rules.specs.Lists.{every}
 use Rattle.rules.specs.Words.{Round}
-use Rattle.laws.proofs.ChoiceLaws.{and-true, both-true}
+use Rattle.laws.proofs.ChoiceLaws.{both-true}
+use Rattle.laws.proofs.RangeLaws.{reversal-in, rotation-in, swap-in}
 use Rattle.laws.proofs.RewriteLaws.{reverseAt-length, reverseAt-undone, rotateAt-length, rotateAt-undone, swapAt-length, swapAt-undone}
 
 -- an entry carried out or taken back keeps the length, and so do all
@@ -33,16 +32,10 @@ undoAll-length (e ∷ es) r = undoAll-length es (takeBack e r) ∙ takeBack-leng
 
 -- an entry in range, carried out and taken back
 pub takeBack-carryOut : (e : Entry) (r : Round) → inRange (length r) e ≡ true → takeBack e (carryOut e r) ≡ r
-unfolding inRange takeBack carryOut
-takeBack-carryOut (reversal s l) r h =
-    let g = and-true (ltb s (length r)) (leb l (length r)) h in
-    reverseAt-undone s l r (omega (arith, ltb-true s (length r) (g .0))) (leb-true l (length r) (g .1))
-takeBack-carryOut (rotation s a b c) r h =
-    let g = and-true (ltb s (length r)) (leb (a + b + c) (length r)) h in
-    rotateAt-undone s a b c r (omega (arith, ltb-true s (length r) (g .0))) (leb-true (a + b + c) (length r) (g .1))
-takeBack-carryOut (swap i j) r h =
-    let g = and-true (ltb i (length r)) (ltb j (length r)) h in
-    swapAt-undone i j r (ltb-true i (length r) (g .0)) (ltb-true j (length r) (g .1))
+unfolding takeBack carryOut
+takeBack-carryOut (reversal s l) r h = let g = reversal-in (length r) s l h in reverseAt-undone s l r (omega (arith, g .0)) (g .1)
+takeBack-carryOut (rotation s a b c) r h = let g = rotation-in (length r) s a b c h in rotateAt-undone s a b c r (omega (arith, g .0)) (g .1)
+takeBack-carryOut (swap i j) r h = let g = swap-in (length r) i j h in swapAt-undone i j r (g .0) (g .1)
 
 -- ---- t′ leads back to t: its journal is t's and newer entries, and those taken back give t's round
 pub record Past (t t′ : Track) : Type 0 where
@@ -96,8 +89,8 @@ past-doingAll (e ∷ es) t h =
 pub past-grown : {t t′ : Track} → Past t t′ → length (t .journal) ≤ length (t′ .journal)
 past-grown {t} {t′} p = omega (arith, ap length (p .grown), length-append (p .newer) (t .journal))
 
--- ---- `rollback`
-rollback-step : (mark : ℕ) (e : Entry) (l : List Entry) (r : Round) → mark ≤ length l
+-- ---- `rollback`: the newest entry goes first
+pub rollback-step : (mark : ℕ) (e : Entry) (l : List Entry) (r : Round) → mark ≤ length l
     → rollback mark (record { round = r; journal = e ∷ l }) ≡ rollback mark (record { round = takeBack e r; journal = l })
 unfolding rollback undoAll
 rollback-step mark e l r h =
@@ -112,10 +105,11 @@ rollback-newer mark (e ∷ es) l r h =
     let g : mark ≤ length (es ++ l) = simp length-append (omega arith) in
     rollback-step mark e (es ++ l) r g ∙ rollback-newer mark es l (takeBack e r) h
 
-rollback-none : (t : Track) → rollback (length (t .journal)) t ≡ t
+-- none is newer than the mark
+pub rollback-done : (mark : ℕ) (t : Track) → length (t .journal) ≤ mark → rollback mark t ≡ t
 unfolding rollback undoAll
-rollback-none t =
-    let q : length (t .journal) - length (t .journal) ≡ 0 = omega arith in
+rollback-done mark t h =
+    let q : length (t .journal) - mark ≡ 0 = omega arith in
     rw q refl
 
 -- a mark below t is as good after t′
@@ -127,7 +121,7 @@ past-deeper {t} {t′} mark p h =
 
 -- back to the mark gives the track of the mark
 pub past-rollback : {t t′ : Track} → Past t t′ → rollback (length (t .journal)) t′ ≡ t
-past-rollback {t} {t′} p = past-deeper (length (t .journal)) p (omega arith) ∙ rollback-none t
+past-rollback {t} {t′} p = past-deeper (length (t .journal)) p (omega arith) ∙ rollback-done (length (t .journal)) t (omega arith)
 
 -- a journal that was empty at the mark, all of it taken back
 pub past-undone : {t t′ : Track} → Past t t′ → t .journal ≡ [] → undoAll (t′ .journal) (t′ .round) ≡ t .round

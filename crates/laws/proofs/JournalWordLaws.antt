@@ -7,13 +7,21 @@ use native.Mathlib.Omega.{arith}
 use native.Mathlib.Decide.{decLt}
 use native.Mathlib.Numerals.{add-one}
 use native.Mathlib.Nat.{add-zero}
-use borrow.Author.Tests.{eq-eqb, ne-eqb, lt-ltb, le-leb, leb-true, ltb-true}
-use lib.Dec.{leb, ltb}
+use borrow.Author.Tests.{eq-eqb, ne-eqb, le-leb, leb-true}
+use lib.Dec.{leb}
 use lib.ListN.{length, take, drop, length-append, length-take, List·getD-append}
 use lib.Seq.{getD-take, getD-drop, getD-append-add, length-take-le, take-take, take-at}
 use Rattle.rules.specs.Lists.{at}
 use Rattle.rules.specs.Journal.{Entry, reversal, rotation, swap, wordsOf, entryAt, entriesOf, inRange, goodJournal}
-use Rattle.laws.proofs.RingRisingLaws.{both-true, and-true, every-rising, rising-every}
+use Rattle.laws.proofs.ChoiceLaws.{and-true, true-and}
+use Rattle.laws.proofs.RisingLaws.{every-rising, rising-every}
+
+-- an entry is five words
+pub length-words : (e : Entry) → length (wordsOf e) ≡ 5
+unfolding wordsOf
+length-words (reversal s l) = refl
+length-words (rotation s a b c) = refl
+length-words (swap p q) = refl
 
 -- ---- equal words are equal entries
 pub entry-same : (ws vs : List ℕ) (i : ℕ) → ((q : ℕ) → q < 5 * i + 5 → at ws q ≡ at vs q) → entryAt ws i ≡ entryAt vs i
@@ -64,32 +72,6 @@ module _ (ws : List ℕ) (i : ℕ) where
   entry-swap h g =
       simp (ne-eqb (at (drop (5 * i) ws) 0) 0 (λ q. h (sym kind-word ∙ q)), ne-eqb (at (drop (5 * i) ws) 0) 1 (λ q. g (sym kind-word ∙ q)), getD-drop (5 * i) ws 1 0, getD-drop (5 * i) ws 2 0)
 
--- what "in range" says of each kind
-pub reversal-in : (n s l : ℕ) → inRange n (reversal s l) ≡ true → (s < n) × (l ≤ n)
-unfolding inRange
-reversal-in n s l h = let b = both-true (ltb s n) (leb l n) h in (ltb-true s n (b .0), leb-true l n (b .1))
-
-pub rotation-in : (n s a b c : ℕ) → inRange n (rotation s a b c) ≡ true → (s < n) × (a + b + c ≤ n)
-unfolding inRange
-rotation-in n s a b c h = let t = both-true (ltb s n) (leb (a + b + c) n) h in (ltb-true s n (t .0), leb-true (a + b + c) n (t .1))
-
-pub swap-in : (n p q : ℕ) → inRange n (swap p q) ≡ true → (p < n) × (q < n)
-unfolding inRange
-swap-in n p q h = let b = both-true (ltb p n) (ltb q n) h in (ltb-true p n (b .0), ltb-true q n (b .1))
-
--- and what makes it so
-pub in-reversal : (n s l : ℕ) → s < n → l ≤ n → inRange n (reversal s l) ≡ true
-unfolding inRange
-in-reversal n s l hs hl = and-true (ltb s n) (leb l n) (lt-ltb s n hs) (le-leb l n hl)
-
-pub in-rotation : (n s a b c : ℕ) → s < n → a + b + c ≤ n → inRange n (rotation s a b c) ≡ true
-unfolding inRange
-in-rotation n s a b c hs hl = and-true (ltb s n) (leb (a + b + c) n) (lt-ltb s n hs) (le-leb (a + b + c) n hl)
-
-pub in-swap : (n p q : ℕ) → p < n → q < n → inRange n (swap p q) ≡ true
-unfolding inRange
-in-swap n p q hp hq = and-true (ltb p n) (ltb q n) (lt-ltb p n hp) (lt-ltb q n hq)
-
 -- ---- a good journal, entry by entry
 unfoldable pub goodEntry : ℕ → List ℕ → ℕ → Bool
 goodEntry n ws i = leb (at ws (5 * i)) 2 && inRange n (entryAt ws i)
@@ -97,15 +79,15 @@ goodEntry n ws i = leb (at ws (5 * i)) 2 && inRange n (entryAt ws i)
 module _ (n : ℕ) (ws : List ℕ) where
   pub good-room : (held : ℕ) → goodJournal n ws held ≡ true → 5 * held ≤ length ws
   unfolding goodJournal
-  good-room held h = leb-true (5 * held) (length ws) (both-true (leb (5 * held) (length ws)) _ h .0)
+  good-room held h = leb-true (5 * held) (length ws) (and-true (leb (5 * held) (length ws)) _ h .0)
 
   pub good-each : (held : ℕ) → goodJournal n ws held ≡ true → (i : ℕ) → i < held → goodEntry n ws i ≡ true
   unfolding goodJournal goodEntry
-  good-each held h i g = rising-every (goodEntry n ws) held 0 (both-true (leb (5 * held) (length ws)) _ h .1) i (omega arith) (omega arith)
+  good-each held h i g = every-rising (goodEntry n ws) held 0 (and-true (leb (5 * held) (length ws)) _ h .1) i (omega arith) (omega arith)
 
   pub good-all : (held : ℕ) → 5 * held ≤ length ws → ((i : ℕ) → i < held → goodEntry n ws i ≡ true) → goodJournal n ws held ≡ true
   unfolding goodJournal goodEntry
-  good-all held h g = and-true (leb (5 * held) (length ws)) _ (le-leb (5 * held) (length ws) h) (every-rising (goodEntry n ws) held 0 (λ i l m. g i (omega arith)))
+  good-all held h g = true-and (leb (5 * held) (length ws)) _ (le-leb (5 * held) (length ws) h) (rising-every (goodEntry n ws) held 0 (λ i l m. g i (omega arith)))
 
   -- the older entries alone
   pub good-fewer : (held mark : ℕ) → mark ≤ held → goodJournal n ws held ≡ true → goodJournal n ws mark ≡ true
@@ -114,16 +96,10 @@ module _ (n : ℕ) (ws : List ℕ) where
   -- an entry's range
   pub good-range : (i : ℕ) → goodEntry n ws i ≡ true → inRange n (entryAt ws i) ≡ true
   unfolding goodEntry
-  good-range i h = both-true (leb (at ws (5 * i)) 2) (inRange n (entryAt ws i)) h .1
+  good-range i h = and-true (leb (at ws (5 * i)) 2) (inRange n (entryAt ws i)) h .1
 
 -- ---- one entry more: ws has the words of vs held, and those of e behind them
 module _ (ws vs : List ℕ) (held : ℕ) (e : Entry) (fits : 5 * held ≤ length vs) (w : take (5 * (held + 1)) ws ≡ take (5 * held) vs ++ wordsOf e) where
-  length-words : (x : Entry) → length (wordsOf x) ≡ 5
-  unfolding wordsOf
-  length-words (reversal s l) = refl
-  length-words (rotation s a b c) = refl
-  length-words (swap p q) = refl
-
   length-old : length (take (5 * held) vs) ≡ 5 * held
   length-old = length-take-le (5 * held) vs fits
 
@@ -164,4 +140,4 @@ module _ (ws vs : List ℕ) (held : ℕ) (e : Entry) (fits : 5 * held ≤ length
       go i h (no l) =
           let q : i ≡ held = omega arith in
           let k : at ws (5 * held) ≤ 2 = rw (sym (ap (at ws) (add-zero (5 * held))) ∙ word-new 0 (omega arith)) (kind-small e) in
-          rw q (and-true (leb (at ws (5 * held)) 2) (inRange n (entryAt ws held)) (le-leb (at ws (5 * held)) 2 k) (rw (entry-words ws held e word-new) r))
+          rw q (true-and (leb (at ws (5 * held)) 2) (inRange n (entryAt ws held)) (le-leb (at ws (5 * held)) 2 k) (rw (entry-words ws held e word-new) r))

@@ -8,8 +8,7 @@ use native.Mathlib.Omega.{arith}
 use lib.Dec.{eqb}
 use lib.ListN.{drop, length, length-append, take}
 use lib.Seq.{length-take-le}
-use borrow.Author.Tests.{le-leb, lt-ltb}
-use Rattle.rules.specs.Journal.{Track, doing, inRange, rotation, swap}
+use Rattle.rules.specs.Journal.{Track, doing, swap}
 use Rattle.rules.specs.Kicks.{Kicked, andThen, bridgeKick, segmentKick, shuffleKick, shuffled, windowKick}
 use Rattle.rules.specs.Lists.{at, if_then_else_}
 use Rattle.rules.specs.Numbers.{long}
@@ -19,7 +18,8 @@ use Rattle.laws.proofs.ChoiceLaws.{either-way}
 use Rattle.laws.proofs.EveryLaws.{Below, all-drop, all-join, all-take, more, none}
 use Rattle.laws.proofs.KickTimeLaws.{Counted, Shuffles, bridge-counted, segment-counted, shuffle-counted, then-counted, window-counted}
 use Rattle.laws.proofs.PermLaws.{Perm, perm-at, perm-below}
-use Rattle.laws.proofs.SinceLaws.{Since, since-doing, since-length, since-more, since-perm, since-refl, since-since}
+use Rattle.laws.proofs.RangeLaws.{in-swap}
+use Rattle.laws.proofs.SinceLaws.{Since, since-doing, since-length, since-more, since-perm, since-refl, since-rotating, since-since}
 use Rattle.laws.proofs.TurnLaws.{turn-length}
 
 -- a kick with at most so many entries
@@ -31,17 +31,13 @@ pub record Kicks (d : Legs) (t : Track) (most : ℕ) (k : Kicked) : Type 0 where
 
 -- ---- the kicks one by one
 module _ (d : Legs) (t : Track) (pm : Perm t.round) where
-  rotated : (s : Place) (a b c : ℕ) → s < length t.round → a + b + c ≤ length t.round → Since t 1 (doing (rotation s a b c) t)
-  unfolding inRange
-  rotated s a b c hs h = since-doing (rotation s a b c) t (rw (lt-ltb s (length t.round) hs, le-leb (a + b + c) (length t.round) h))
-
   stop : (i : Place) → i < length t.round → at t.round i < length t.round
   stop = perm-at t.round pm
 
   -- p X Y Z q to p Z Y X q
   pub segment-kicks : (a b c : ℕ) (start : Place) → start < length t.round → 0 < a → 0 < c → a + b + c < length t.round → Kicks d t 1 (segmentKick d a b c start t)
   unfolding segmentKick
-  segment-kicks a b c start hs ha hc h = record { counted = segment-counted d t a b c start hs ha hc h; since = rotated start a b c hs (omega arith); stops = low; some = omega arith }
+  segment-kicks a b c start hs ha hc h = record { counted = segment-counted d t a b c start hs ha hc h; since = since-rotating t start a b c hs (omega arith); stops = low; some = omega arith }
     where
       w : (k : ℕ) → at t.round ((start + k) % length t.round) < length t.round
       w k = stop ((start + k) % length t.round) (mod-lt (start + k) (omega (arith, hs)))
@@ -64,14 +60,14 @@ module _ (d : Legs) (t : Track) (pm : Perm t.round) where
       let d1 = stop (n - 1) (omega arith) in
       record {
         counted = bridge-counted d t la lb lc ha hb hc h;
-        since = rotated la lb lc (n - (la + lb + lc)) (omega arith) (omega arith);
+        since = since-rotating t la lb lc (n - (la + lb + lc)) (omega arith) (omega arith);
         stops = more a0 (more a1 (more b0 (more b1 (more c0 (more c1 (more d0 (more d1 none)))))));
         some = omega arith;
       }
 
 -- ---- shuffles: a swap for a draw at most
 since-shuffled : (start : Place) (vs : List ℕ) (t : Track) → Shuffles vs → start + length vs < length t.round → Since t (length vs) (shuffled start vs t)
-unfolding shuffled inRange
+unfolding shuffled
 since-shuffled start [] t Shuffles.none h = since-refl 0 t
 since-shuffled start (v ∷ vs) t (Shuffles.more q c) h =
     let n = length t.round in
@@ -79,7 +75,7 @@ since-shuffled start (v ∷ vs) t (Shuffles.more q c) h =
     let u = (if eqb v k then t else doing (swap (start + v) (start + k)) t) in
     let lv : start + v < n = omega arith in
     let lk : start + k < n = omega arith in
-    let one : Since t 1 u = either-way (Since t 1) (eqb v k) (since-refl 1 t) (since-doing (swap (start + v) (start + k)) t (rw (lt-ltb (start + v) n lv, lt-ltb (start + k) n lk))) in
+    let one : Since t 1 u = either-way (Since t 1) (eqb v k) (since-refl 1 t) (since-doing (swap (start + v) (start + k)) t (in-swap n (start + v) (start + k) lv lk)) in
     let all = since-since one (since-shuffled start vs u c (omega (arith, since-length one))) in
     since-more (1 + length vs) k all (omega arith)
 

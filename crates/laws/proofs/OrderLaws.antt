@@ -8,15 +8,17 @@ use native.Mathlib.Decide.{ℕ-discrete}
 use native.Mathlib.Omega.{arith}
 use lib.Dec.{eqb}
 use lib.ListN.{length}
-use borrow.Author.Tests.{eq-eqb, ne-eqb, eqb-true}
+use borrow.Author.Tests.{eq-eqb, eqb-true}
 use Rattle.rules.specs.Words.{Stop, Round}
-use Rattle.rules.specs.Lists.{rising, each, keep, every, one, tally}
+use Rattle.rules.specs.Lists.{rising, each, every, one, tally}
 use Rattle.rules.specs.Ring.{isRound}
 use Rattle.rules.specs.Start.{without}
 use Rattle.rules.specs.Exact.{Before, same, less, more, FromZero, orders, rounds}
 use Rattle.laws.proofs.ChoiceLaws.{and-true}
+use Rattle.laws.proofs.InLaws.{In, top, down, in-some, in-either, in-map, map-in, in-each, each-in, in-rising, rising-in, Up, up-rising, up-in}
 use Rattle.laws.proofs.RisingLaws.{every-rising, rising-every, rising-length}
-use Rattle.laws.proofs.InLaws.{In, top, down, in-some, in-either, in-map, map-in, in-each, each-in, in-rising, rising-in, Up, up-rising, up-in, without-in, up-without, without-same, without-other, without-first, length-without}
+use Rattle.laws.proofs.TallyLaws.{one-other, one-same}
+use Rattle.laws.proofs.WithoutLaws.{without-in, up-without, without-other, without-first, length-without, without-length, without-tally-other}
 
 -- o goes through each of l once
 pub data Order : List Stop → List Stop → Type 0 where
@@ -100,14 +102,6 @@ orders-sorted (suc count) i l u =
     sorted-each (λ v. orders count (without v l)) (λ v. sorted-map v (orders count (without v l)) (orders-sorted count i (without v l) (up-without v i l u))) i l u
 
 -- ---- by tally
-one-same : (v : Stop) → one v v ≡ 1
-unfolding one
-one-same v = rw (eq-eqb v v refl)
-
-one-other : {x v : Stop} → x ≢ v → one x v ≡ 0
-unfolding one
-one-other {x} {v} ne = rw (ne-eqb x v ne)
-
 -- of a list that rises each is there once
 up-none : (i : ℕ) (l : List Stop) → Up i l → (v : Stop) → v < i → tally l v ≡ 0
 unfolding tally
@@ -118,7 +112,7 @@ up-none i (x ∷ l) u v h =
 
 up-once : (i : ℕ) {v : Stop} {l : List Stop} → Up i l → In v l → tally l v ≡ 1
 unfolding tally
-up-once i {v} u (top {l = l}) = omega (arith, one-same v, up-none (suc v) l (u .1) v (omega arith))
+up-once i {v} u (top {l = l}) = omega (arith, one-same (refl {a = v}), up-none (suc v) l (u .1) v (omega arith))
 up-once i {v} u (down {y = y} h) =
     let ne : y ≢ v = omega (arith, up-in (suc y) (u .1) h) in
     omega (arith, one-other ne, up-once (suc y) (u .1) h)
@@ -135,32 +129,12 @@ unfolding tally
 order-tally i u none v = refl
 order-tally i {l} u (next {v = k} h q) v = omega (arith, tally-without k i u h v, order-tally i (up-without k i l u) q v)
 
--- the others of a list, how many, and how often each
-module _ (x : Stop) where
-  length-tally : (l : List Stop) → length (without x l) + tally l x ≡ length l
-  unfolding tally without keep
-  length-tally [] = refl
-  length-tally (y ∷ l) =
-      elim (ℕ-discrete y x) [
-        | yes e ↦ rw (without-same x y l e) (omega (arith, length-tally l, ap (λ z. one z x) e, one-same x))
-        | no ne ↦ rw (without-other x y l ne) (omega (arith, length-tally l, one-other ne))
-      ]
-
-  tally-other : (l : List Stop) (v : Stop) → x ≢ v → tally (without x l) v ≡ tally l v
-  unfolding tally without keep
-  tally-other [] v d = refl
-  tally-other (y ∷ l) v d =
-      elim (ℕ-discrete y x) [
-        | yes e ↦ rw (without-same x y l e) (omega (arith, tally-other l v d, ap (λ z. one z v) e, one-other d))
-        | no ne ↦ rw (without-other x y l ne) (omega (arith, tally-other l v d))
-      ]
-
 -- a list that has all of l is no shorter
 tally-room : (i : ℕ) (l o : List Stop) → Up i l → ((v : Stop) → In v l → 1 ≤ tally o v) → length l ≤ length o
 tally-room i [] o u h = omega arith
 tally-room i (x ∷ l) o u h =
-    let on = tally-room (suc x) l (without x o) (u .1) (λ v k. let d : x ≢ v = omega (arith, up-in (suc x) (u .1) k) in omega (arith, tally-other x o v d, h v (down k))) in
-    omega (arith, length-tally x o, h x top)
+    let on = tally-room (suc x) l (without x o) (u .1) (λ v k. let d : x ≢ v = omega (arith, up-in (suc x) (u .1) k) in omega (arith, without-tally-other x v o d, h v (down k))) in
+    omega (arith, without-length x o, h x top)
 
 in-or-not : (v : Stop) (l : List Stop) → In v l ⊎ (In v l → ⊥)
 in-or-not v [] = inr (λ h. omega (arith, in-some h))
@@ -207,7 +181,7 @@ order-round n o h k = record { zero-first = refl; each-once = rw (long, every-st
     each-one : (v : Stop) → v < n → tally (0 ∷ o) v ≡ 1
     each-one v l =
         elim (ℕ-discrete 0 v) [
-          | yes e ↦ omega (arith, ap (λ z. one z v) e, one-same v, order-tally 1 up k v, up-none 1 (later n) up v (omega arith))
+          | yes e ↦ omega (arith, ap (λ z. one z v) e, one-same (refl {a = v}), order-tally 1 up k v, up-none 1 (later n) up v (omega arith))
           | no ne ↦ omega (arith, one-other ne, order-tally 1 up k v, up-once 1 up (in-rising (n - 1) 1 v (omega arith) (omega arith)))
         ]
 

@@ -1,6 +1,6 @@
 -- A round of n stops, each once: the check of number 7 as facts, and back.
 use Prim.Native.Nat.{_+_, _<_, _≤_, suc, zero, ℕ}
-use mathlib.Core.Path.{_≡_, refl, subst}
+use mathlib.Core.Path.{_≡_, ap, refl, subst}
 use mathlib.Core.Logic.{_≢_}
 use mathlib.Core.Bool.{Bool, true}
 use mathlib.Core.List.{List, [], _∷_}
@@ -142,6 +142,17 @@ below-over n (x ∷ l) (more h b) = rw (lt-ltb x n h) (omega (arith, below-over 
 -- stops below n, none twice, are at most n
 pub once-few : (n : ℕ) (l : List Stop) → Below n l → ((v : Stop) → tally l v ≤ 1) → length l ≤ n
 once-few n l b u = omega (arith, counted n l, total-few n (tally l) u, below-over n l b)
+
+-- n of them are all
+pub once-each : (n : ℕ) (l : List Stop) → length l ≡ n → Below n l → ((v : Stop) → tally l v ≤ 1) → (v : Stop) → v < n → tally l v ≡ 1
+unfolding tally
+once-each n l e b u v h = elim (ℕ-discrete (tally l v) 0) [
+  | yes z ↦ absurd (omega (arith, once-few n (v ∷ l) (more h b) (single z)))
+  | no z ↦ omega (arith, u v)
+]
+  where
+    single : tally l v ≡ 0 → (w : Stop) → tally (v ∷ l) w ≤ 1
+    single z w = elim (ℕ-discrete v w) [ yes q ↦ omega (arith, one-same q, ap (tally l) q) | no q ↦ omega (arith, one-other q, u w) ]
 
 -- ---- number 7
 module _ (n : ℕ) (r : Round) (e : isRound n r ≡ true) where

@@ -1,6 +1,6 @@
 -- Places and stops of a round: the place before and after, and where a stop stands.
 use Prim.Native.Nat.{_+_, _-_, _<_, _≤_, suc, zero, ℕ}
-use mathlib.Core.Path.{_≡_, ap, refl}
+use mathlib.Core.Path.{_∙_, _≡_, ap, refl}
 use mathlib.Core.Logic.{_≢_}
 use mathlib.Core.List.{[], _∷_}
 use native.Mathlib.Decide.{ℕ-discrete}
@@ -32,6 +32,21 @@ prev-first n = refl
 pub prev-inner : (n : ℕ) (i : Place) → i ≢ 0 → prev n i ≡ i - 1
 unfolding prev
 prev-inner n i e = rw (ne-eqb i 0 e)
+
+-- the same as a view of the place after i, and of the place before
+pub data Next (n : ℕ) (i x : Place) : Type 0 where
+  to-0 : i + 1 ≡ n → x ≡ 0 → Next n i x
+  to-more : i + 1 ≢ n → x ≡ i + 1 → Next n i x
+
+pub next-view : (n : ℕ) (i : Place) → Next n i (next n i)
+next-view n i = elim (ℕ-discrete (i + 1) n) [ yes h ↦ to-0 h (next-last n i h) | no h ↦ to-more h (next-inner n i h) ]
+
+pub data Prev (n : ℕ) (i x : Place) : Type 0 where
+  to-last : i ≡ 0 → x ≡ n - 1 → Prev n i x
+  to-less : i ≢ 0 → x ≡ i - 1 → Prev n i x
+
+pub prev-view : (n : ℕ) (i : Place) → Prev n i (prev n i)
+prev-view n i = elim (ℕ-discrete i 0) [ yes h ↦ to-last h (ap (prev n) h ∙ prev-first n) | no h ↦ to-less h (prev-inner n i h) ]
 
 -- both are places of the ring
 pub next-below : (n : ℕ) (p : Place) → p < n → next n p < n

@@ -1,20 +1,20 @@
 -- 01, 4: "a stop waits once, in order of arrival".
-use Prim.Native.Nat.{_+_, _<_, _≤_, ℕ}
+use Prim.Native.Nat.{_+_, _<_, _≤_, suc, zero, ℕ}
 use mathlib.Core.Path.{_∙_, _≡_, ap, refl, subst, sym}
 use mathlib.Core.Bool.{Bool, _||_, false, not, true}
 use mathlib.Core.List.{List, [], _++_, _∷_, append-assoc, append-nil}
 use native.Mathlib.Decide.{ℕ-discrete}
 use native.Mathlib.Omega.{arith}
 use lib.Dec.{eqb}
-use lib.ListN.{length, length-append}
+use lib.ListN.{length, length-append, take}
 use borrow.Author.Tests.{eqb-false, eqb-true, not-true}
-use Rattle.rules.specs.Lists.{has, if_then_else_, once, one, tally}
+use Rattle.rules.specs.Lists.{at, has, if_then_else_, once, one, tally}
 use Rattle.rules.specs.Queue.{push, pushAll}
 use Rattle.rules.specs.Words.{Stop}
-use Rattle.laws.proofs.ChoiceLaws.{and-true, either-if, either-way, or-false, true-false}
+use Rattle.laws.proofs.ChoiceLaws.{and-true, either-if, either-way, not-so, or-false, true-false}
 use Rattle.laws.proofs.EveryLaws.{Below, all-join, more, none}
 use Rattle.laws.proofs.PermLaws.{once-few}
-use Rattle.laws.proofs.PlaceLaws.{place-below}
+use Rattle.laws.proofs.PlaceLaws.{place-below, tally-at}
 use Rattle.laws.proofs.TallyLaws.{one-other, one-same, tally-join}
 
 -- ---- the tests `has` and `once` as counts
@@ -47,16 +47,31 @@ once-tally (x ∷ q) e v =
       | no ne ↦ omega (arith, one-other ne, once-tally q (g .1) v)
     ]
 
+-- none twice: the first taken, the others are so too, and have it not
+pub single-take : (v : Stop) (q : List Stop) → ((u : Stop) → tally (v ∷ q) u ≤ 1) → (u : Stop) → tally q u ≤ 1
+unfolding tally
+single-take v q s u = omega (arith, s u)
+
+pub single-gone : (v : Stop) (q : List Stop) → ((u : Stop) → tally (v ∷ q) u ≤ 1) → has q v ≡ false
+unfolding tally
+single-gone v q s = not-so (has q v) (λ e. omega (arith, s v, one-same (refl {a = v}), has-tally q v e))
+
+-- so nobody waits twice
 pub tally-once : (q : List Stop) → ((v : Stop) → tally q v ≤ 1) → once q ≡ true
 unfolding once tally
 tally-once [] h = refl
-tally-once (x ∷ q) h =
-    let z : has q x ≡ false = absent (has q x) refl in
-    rw z (tally-once q (λ v. omega (arith, h v)))
-  where
-    absent : (b : Bool) → has q x ≡ b → has q x ≡ false
-    absent true e = absurd (omega (arith, h x, one-same (refl {a = x}), has-tally q x e))
-    absent false e = e
+tally-once (x ∷ q) h = rw (single-gone x q h) (tally-once q (single-take x q h))
+
+-- a stop that waits before place i and stands at place i waits twice
+pub tally-split : (q : List Stop) (i : ℕ) (v : Stop) → i < length q → at q i ≡ v → has (take i q) v ≡ true → 2 ≤ tally q v
+unfolding has tally
+tally-split [] i v h e up = absurd (omega arith)
+tally-split (x ∷ q) zero v h e up = absurd (true-false (sym up))
+tally-split (x ∷ q) (suc i) v h e up =
+    either-if (λ (b : Bool). b ≡ true → 2 ≤ one x v + tally q v) (eqb x v)
+    (λ y z. omega (arith, one-same (eqb-true x v y), subst (λ u. 0 < tally q u) e (tally-at q i (omega arith))))
+    (λ y z. omega (arith, tally-split q i v (omega arith) e z))
+    up
 
 -- ---- push
 pub push-old : (q : List Stop) (v : Stop) → has q v ≡ true → push q v ≡ q
@@ -72,15 +87,18 @@ tally-last : (q : List Stop) (v u : Stop) → tally (q ++ (v ∷ [])) u ≡ tall
 unfolding tally
 tally-last q v u = omega (arith, tally-join u q (v ∷ []))
 
+-- who does not wait yet, put behind the others: none twice
+pub single-push : (q : List Stop) (v : Stop) → ((u : Stop) → tally q u ≤ 1) → has q v ≡ false → (u : Stop) → tally (q ++ (v ∷ [])) u ≤ 1
+single-push q v s e u = elim (ℕ-discrete v u) [
+  | yes z ↦ (let k : tally q u ≡ 0 = ap (tally q) (sym z) ∙ hasnt-tally q v e in omega (arith, tally-last q v u, one-same z))
+  | no ne ↦ omega (arith, tally-last q v u, one-other ne, s u)
+]
+
 -- nobody waits twice
 pub push-once : (q : List Stop) (v : Stop) → once q ≡ true → once (push q v) ≡ true
 unfolding push
 push-once q v h =
-    either-if (λ (l : List Stop). once l ≡ true) (has q v) (λ e. h)
-    (λ e. tally-once (q ++ (v ∷ [])) (λ u. elim (ℕ-discrete v u) [
-      | yes z ↦ (let k : tally q u ≡ 0 = ap (tally q) (sym z) ∙ hasnt-tally q v e in omega (arith, tally-last q v u, one-same z))
-      | no ne ↦ omega (arith, tally-last q v u, one-other ne, once-tally q h u)
-    ]))
+    either-if (λ (l : List Stop). once l ≡ true) (has q v) (λ e. h) (λ e. tally-once (q ++ (v ∷ [])) (single-push q v (once-tally q h) e))
 
 pub pushAll-once : (q vs : List Stop) → once q ≡ true → once (pushAll q vs) ≡ true
 unfolding pushAll

@@ -4,7 +4,7 @@ use mathlib.Core.Path.{_≡_, refl, sym, ap, _∙_}
 use mathlib.Core.Logic.{_≢_}
 use mathlib.Core.Bool.{true, false}
 use mathlib.Core.List.{List, [], _∷_}
-use native.Mathlib.Decide.{ℕ-discrete, decLe}
+use native.Mathlib.Decide.{decLe}
 use native.Mathlib.Nat.{div-div-eq-div-mul, pow-succ'}
 use native.Mathlib.Omega.{arith}
 use lib.Dec.{eqb}
@@ -12,12 +12,13 @@ use lib.ListN.{length}
 use lib.Pow.{pow-pos, pow-mono}
 use borrow.Author.Tests.{eq-eqb, ne-eqb, eqb-true}
 use Rattle.rules.specs.Words.{Stop}
-use Rattle.rules.specs.Lists.{rising, keep}
+use Rattle.rules.specs.Lists.{rising}
 use Rattle.rules.specs.Start.{without}
 use Rattle.rules.specs.Table.{member, members}
-use Rattle.laws.proofs.ChoiceLaws.{either-if, true-false}
-use Rattle.laws.proofs.InLaws.{In, in-keep, keep-in, keep-yes, keep-no, keep-few, keep-none, keep-all, in-rising, rising-in, Up, up-rising, up-raise, up-keep, without-same, without-other, least-first}
+use Rattle.laws.proofs.ChoiceLaws.{true-false}
+use Rattle.laws.proofs.InLaws.{In, in-keep, keep-in, keep-few, keep-none, keep-all, in-rising, rising-in, Up, up-rising, up-raise, up-keep}
 use Rattle.laws.proofs.RisingLaws.{rising-length}
+use Rattle.laws.proofs.WithoutLaws.{keep-without, least-first}
 
 -- the bit above the lowest is a bit of the half
 pub bit-half : (s j : ℕ) → s / 2 ^ suc j ≡ s / 2 / 2 ^ j
@@ -87,24 +88,9 @@ module _ (s : ℕ) where
   less-other (suc i) zero h ne = refl
   less-other (suc i) (suc j) h ne = rw (bit-of i) (ap (λ x. eqb x 1) (off-other s i j (bit-set s i h) (λ q. ne (ap suc q))))
 
-  kept-less : (k : Stop) → member s k ≡ true → (l : List Stop) → keep (member (s - bitOf k)) l ≡ without k (keep (member s) l)
-  unfolding keep without
-  kept-less k h [] = refl
-  kept-less k h (x ∷ l) =
-      elim (ℕ-discrete k x) [
-        | yes e ↦
-            keep-no (member (s - bitOf k)) x l (ap (member (s - bitOf k)) (sym e) ∙ less-same k h) ∙ kept-less k h l
-            ∙ sym (ap (without k) (keep-yes (member s) x l (ap (member s) (sym e) ∙ h)) ∙ without-same k x (keep (member s) l) (sym e))
-        | no ne ↦
-            either-if (λ r. keep (member (s - bitOf k)) (x ∷ l) ≡ without k r) (member s x)
-            (λ e. keep-yes (member (s - bitOf k)) x l (less-other k x h ne ∙ e) ∙ ap (λ (r : List Stop). x ∷ r) (kept-less k h l)
-            ∙ sym (without-other k x (keep (member s) l) (λ q. ne (sym q))))
-            (λ e. keep-no (member (s - bitOf k)) x l (less-other k x h ne ∙ e) ∙ kept-less k h l)
-      ]
-
   pub members-less : (m : ℕ) (k : Stop) → member s k ≡ true → members m (s - bitOf k) ≡ without k (members m s)
   unfolding members
-  members-less m k h = kept-less k h (rising m 1)
+  members-less m k h = sym (keep-without (member s) (member (s - bitOf k)) k (less-same k h) (λ v ne. less-other k v h (λ e. ne (sym e))) (rising m 1))
 
   pub members-up : (m : ℕ) → Up 1 (members m s)
   unfolding members

@@ -6,9 +6,8 @@ use mathlib.Core.List.{List, [], _++_, _∷_}
 use native.Mathlib.Omega.{arith}
 use lib.Dec.{eqb, leb, ltb}
 use lib.ListN.{length, length-append}
-use borrow.Author.Tests.{le-leb, lt-ltb}
 use Rattle.rules.specs.Improve.{Trial}
-use Rattle.rules.specs.Journal.{Entry, Track, doing, inRange, reversal, reversing, rotation}
+use Rattle.rules.specs.Journal.{Entry, Track, doing, inRange, reversal, reversing, rollback, rotation}
 use Rattle.rules.specs.Lists.{every, tally}
 use Rattle.rules.specs.Moves.{Case, exchange, flip, flips, inner, orMove, segment, seq3, two}
 use Rattle.rules.specs.Rewrite.{stretch}
@@ -16,9 +15,10 @@ use Rattle.rules.specs.Ring.{place, pred, succ}
 use Rattle.rules.specs.Words.{Place, Stop}
 use Rattle.laws.proofs.ChoiceLaws.{either-way}
 use Rattle.laws.proofs.EveryLaws.{Below, all-every, all-join, every-all, more, none}
-use Rattle.laws.proofs.JournalLaws.{Past, past-doing, past-length, past-past, past-refl}
+use Rattle.laws.proofs.JournalLaws.{Past, past-doing, past-length, past-past, past-refl, past-rollback}
 use Rattle.laws.proofs.PermLaws.{Perm, perm-kept, pred-below}
 use Rattle.laws.proofs.PlaceLaws.{place-below}
+use Rattle.laws.proofs.RangeLaws.{in-reversal, in-rotation}
 use Rattle.laws.proofs.StretchLaws.{stretch-fits}
 use Rattle.laws.proofs.TallyLaws.{tally-undoAll}
 use Rattle.laws.proofs.TrialStopLaws.{Stops}
@@ -75,12 +75,19 @@ module _ {t t′ : Track} {k : ℕ} (s : Since t k t′) where
 
 -- ---- the moves
 pub since-reversing : (s e : Place) (t : Track) → s < length t.round → e < length t.round → Since t 1 (reversing s e t)
-unfolding reversing inRange
+unfolding reversing
 since-reversing s e t hs he =
     let w = stretch (length t.round) s e in
     let f = stretch-fits (length t.round) s e hs he in
     either-way (Since t 1) (ltb w.len 2) (since-refl 1 t)
-    (since-doing (reversal w.start w.len) t (rw (lt-ltb w.start (length t.round) f.start-below, le-leb w.len (length t.round) f.len-few)))
+    (since-doing (reversal w.start w.len) t (in-reversal (length t.round) w.start w.len f.start-below f.len-few))
+
+-- taken back by a rollback to where the journal was
+pub reversing-back : (s e : Place) (t : Track) → s < length (t .round) → e < length (t .round) → rollback (length (t .journal)) (reversing s e t) ≡ t
+reversing-back s e t hs he = past-rollback (since-reversing s e t hs he .past)
+
+pub since-rotating : (t : Track) (s : Place) (a b c : ℕ) → s < length t.round → a + b + c ≤ length t.round → Since t 1 (doing (rotation s a b c) t)
+since-rotating t s a b c hs h = since-doing (rotation s a b c) t (in-rotation (length t.round) s a b c hs h)
 
 module _ (t : Track) (pm : Perm t.round) where
   spot : (v : Stop) → v < length t.round → place t.round v < length t.round
@@ -95,19 +102,15 @@ module _ (t : Track) (pm : Perm t.round) where
       (since-reversing (place r t2) (place r (pred r t3)) t (spot t2 h2) (spot (pred r t3) (pred-below r pm t3 h3)))
       (since-reversing (place r t1) (place r t3) t (spot t1 h1) (spot t3 h3))
 
-  rotated : (s : Place) (a b : ℕ) → s < length t.round → a + b ≤ length t.round → Since t 1 (doing (rotation s a 0 b) t)
-  unfolding inRange
-  rotated s a b hs h = let k : a + 0 + b ≤ length t.round = omega arith in since-doing (rotation s a 0 b) t (rw (lt-ltb s (length t.round) hs, le-leb (a + 0 + b) (length t.round) k))
-
   since-exchange : (c0 c1 c2 : Place) → c0 ≤ c1 → c1 ≤ c2 → c2 < length t.round → Since t 1 (exchange c0 c1 c2 t)
   unfolding exchange
   since-exchange c0 c1 c2 h k l =
       let n = length t.round in
       either-way (Since t 1) (leb (c1 - c0) (n - (c2 - c0)) && leb (c2 - c1) (n - (c2 - c0)))
-      (rotated c0 (c1 - c0) (c2 - c1) (omega arith) (omega arith))
+      (since-rotating t c0 (c1 - c0) 0 (c2 - c1) (omega arith) (omega arith))
       (either-way (Since t 1) (leb (c2 - c1) (c1 - c0))
-      (rotated c1 (c2 - c1) (n - (c2 - c0)) (omega arith) (omega arith))
-      (rotated c2 (n - (c2 - c0)) (c1 - c0) l (omega arith)))
+      (since-rotating t c1 (c2 - c1) 0 (n - (c2 - c0)) (omega arith) (omega arith))
+      (since-rotating t c2 (n - (c2 - c0)) 0 (c1 - c0) l (omega arith)))
 
   cuts : (p q s : Place) → p < length t.round → q < length t.round → s < length t.round
       → Since t 1 (exchange (min p (min q s)) (p + q + s - min p (min q s) - max p (max q s)) (max p (max q s)) t)

@@ -1,178 +1,80 @@
 -- 01, 12: the start round goes on, always, to the lowest of the nearest stops that are left.
-use Prim.Native.Nat.{ℕ, zero, suc, _+_, _*_, _≤_, _<_}
-use mathlib.Core.Path.{_≡_, refl, sym, ap, _∙_}
-use mathlib.Core.Bool.{Bool, true, false, not}
-use mathlib.Core.List.{List, _∷_}
-use mathlib.Core.Logic.{_⊎_, inl, inr, ⊎-elim, _≢_}
+use Prim.Native.Nat.{ℕ, suc, _+_, _≤_, _<_}
+use mathlib.Core.Path.{_≡_, ap, _∙_}
+use mathlib.Core.Bool.{Bool, true, false}
+use mathlib.Core.List.{List, [], _∷_}
+use mathlib.Core.Logic.{_≢_}
 use native.Mathlib.Omega.{arith}
-use native.Mathlib.Decide.{decLt, ℕ-discrete}
-use lib.Dec.{eqb}
+use native.Mathlib.Decide.{decLt}
 use lib.ListN.{length}
-use borrow.Author.Tests.{lt-ltb, le-ltb, le-leb, lt-leb, eq-eqb, ne-eqb}
-use Rattle.rules.specs.Words.{Stop, Time, Round, Legs}
+use Rattle.rules.specs.Words.{Stop, Legs}
 use Rattle.rules.specs.Lists.{rising, keep}
 use Rattle.rules.specs.Start.{nearest, without, startFrom}
-use Rattle.rules.specs.Numbers.{verdict, within, startNumber}
-
-either : (b : Bool) → (b ≡ true) ⊎ (b ≡ false)
-either true = inl refl
-either false = inr refl
-
-module _ (p : Stop → Bool) (v : Stop) (l : List Stop) where
-  keep-yes : p v ≡ true → keep p (v ∷ l) ≡ v ∷ keep p l
-  unfolding keep
-  keep-yes h = rw (h, keep)
-
-  keep-no : p v ≡ false → keep p (v ∷ l) ≡ keep p l
-  unfolding keep
-  keep-no h = rw (h, keep)
+use Rattle.laws.proofs.InLaws.{In, Up, in-keep, in-rising, in-some, keep-all, keep-in, keep-no, rising-in, top, up-keep, up-rising}
+use Rattle.laws.proofs.NearestLaws.{nearest-is}
+use Rattle.laws.proofs.WithoutLaws.{keep-without, length-without}
 
 -- the stops that pass, of `count` from stop a on
 unfoldable pub passing : (Stop → Bool) → ℕ → Stop → List Stop
 passing p count a = keep p (rising count a)
 
 module _ (p : Stop → Bool) (count a : ℕ) where
-  passing-yes : p a ≡ true → passing p (suc count) a ≡ a ∷ passing p count (a + 1)
-  unfolding passing rising
-  passing-yes = keep-yes p a (rising count (a + 1))
-
   pub passing-no : p a ≡ false → passing p (suc count) a ≡ passing p count (a + 1)
   unfolding passing rising
   passing-no = keep-no p a (rising count (a + 1))
 
-module _ (f : Stop → Time) (so v : Stop) (vs : List Stop) where
-  nearer : f v < f so → nearest f so (v ∷ vs) ≡ nearest f v vs
-  unfolding nearest
-  nearer h = simp (lt-ltb (f v) (f so) h)
+  passing-up : Up a (passing p count a)
+  unfolding passing
+  passing-up = up-keep p a (rising count a) (up-rising count a)
 
-  farther : f so ≤ f v → nearest f so (v ∷ vs) ≡ nearest f so vs
-  unfolding nearest
-  farther h = simp (le-ltb (f v) (f so) h)
+  in-passing : {v : Stop} → a ≤ v → v < a + count → p v ≡ true → In v (passing p count a)
+  unfolding passing
+  in-passing {v} low high e = in-keep p (in-rising count a v low high) e
 
--- of the stops below n that pass none is nearer than k, and those before it are farther
-module _ (f : Stop → Time) (p : Stop → Bool) (n k : ℕ) (below : k < n) (passes : p k ≡ true)
-    (near : (v : Stop) → v < n → p v ≡ true → f k ≤ f v) (first : (v : Stop) → v < k → p v ≡ true → f k < f v) where
-  -- once reached it stays
-  stays : (count a : ℕ) → a + count ≡ n → nearest f k (passing p count a) ≡ k
-  unfolding nearest passing keep rising
-  stays zero a e = refl
-  stays (suc count) a e =
-      let on = stays count (a + 1) (omega arith) in
-      ⊎-elim
-      (λ y. ap (nearest f k) (passing-yes p count a y) ∙ farther f k a (passing p count (a + 1)) (near a (omega arith) y) ∙ on)
-      (λ z. ap (nearest f k) (passing-no p count a z) ∙ on)
-      (either (p a))
+  passing-in : {v : Stop} → In v (passing p count a) → (a ≤ v) × (v < a + count) × (p v ≡ true)
+  unfolding passing
+  passing-in h =
+      let r = keep-in p (rising count a) h in
+      let z = rising-in count a (r .0) in
+      (z .0, z .1, r .1)
 
-  reached : (count a : ℕ) → k ≡ a → passing p (suc count) a ≡ k ∷ passing p count (a + 1)
-  reached count a e = passing-yes p count a (ap p (sym e) ∙ passes) ∙ ap (λ (v : Stop). v ∷ passing p count (a + 1)) (sym e)
-
-  -- after `so`, which is farther, it comes
-  comes : (so count a : ℕ) → a + count ≡ n → a ≤ k → f k < f so → nearest f so (passing p count a) ≡ k
-  comes so zero a e low l = absurd (omega arith)
-  comes so (suc count) a e low l = go (λ so′ h. comes so′ count (a + 1) (omega arith) (omega arith)) (decLt a k)
-    where
-      rest : List Stop
-      rest = passing p count (a + 1)
-
-      past : ((so′ : Stop) → f k < f so′ → nearest f so′ rest ≡ k) → f k < f a → Dec (f a < f so) → nearest f so (a ∷ rest) ≡ k
-      past on h (yes s) = nearer f so a rest s ∙ on a h
-      past on h (no s) = farther f so a rest (omega arith) ∙ on so l
-
-      go : ((so′ : Stop) → a < k → f k < f so′ → nearest f so′ rest ≡ k) → Dec (a < k) → nearest f so (passing p (suc count) a) ≡ k
-      go on (yes h) =
-          ⊎-elim
-          (λ y. ap (nearest f so) (passing-yes p count a y) ∙ past (λ so′. on so′ h) (first a h y) (decLt (f a) (f so)))
-          (λ z. ap (nearest f so) (passing-no p count a z) ∙ on so h l)
-          (either (p a))
-      go on (no h) =
-          ap (nearest f so) (reached count a (omega arith)) ∙ nearer f so k rest l ∙ stays count (a + 1) (omega arith)
-
-  -- the first that passes, and the others
-  record Front (l : List Stop) : Type 0 where
-    pub head : Stop
-    pub tail : List Stop
-    pub is : l ≡ head ∷ tail
-    pub gives : nearest f head tail ≡ k
-
-  front : (count a : ℕ) → a + count ≡ n → a ≤ k → Front (passing p count a)
-  front zero a e low = absurd (omega arith)
-  front (suc count) a e low = go (λ h. front count (a + 1) (omega arith) (omega arith)) (decLt a k)
-    where
-      rest : List Stop
-      rest = passing p count (a + 1)
-
-      go : (a < k → Front rest) → Dec (a < k) → Front (passing p (suc count) a)
-      go on (yes h) =
-          ⊎-elim
-          (λ y. record { head = a; tail = rest; is = passing-yes p count a y; gives = comes a count (a + 1) (omega arith) (omega arith) (first a h y) })
-          (λ z. rw (passing-no p count a z) (on h))
-          (either (p a))
-      go on (no h) = record { head = k; tail = rest; is = reached count a (omega arith); gives = stays count (a + 1) (omega arith) }
-
+-- of the stops below n that pass none is nearer than k, and those before it are farther: there the start round goes on
 module _ (d : Legs) (last : Stop) (count : ℕ) where
   start-step : (v : Stop) (vs : List Stop) {k : Stop} → nearest (d last) v vs ≡ k
       → startFrom d (suc count) last (v ∷ vs) ≡ k ∷ startFrom d count k (without k (v ∷ vs))
   unfolding startFrom
   start-step v vs h = rw h
 
-  -- there the start round goes on
   pub start-on : (p : Stop → Bool) (n k : ℕ) → k < n → p k ≡ true
       → ((v : Stop) → v < n → p v ≡ true → d last k ≤ d last v)
       → ((v : Stop) → v < k → p v ≡ true → d last k < d last v)
       → startFrom d (suc count) last (passing p n 0) ≡ k ∷ startFrom d count k (without k (passing p n 0))
-  start-on p n k below passes near first =
-      let x = front (d last) p n k below passes near first n 0 (omega arith) (omega arith) in
-      rw (x .is) (start-step (x .head) (x .tail) (x .gives))
-
-module _ (k v : Stop) (l : List Stop) where
-  without-same : v ≡ k → without k (v ∷ l) ≡ without k l
-  unfolding without
-  without-same e = keep-no (λ u. not (eqb u k)) v l (ap not (eq-eqb v k e))
-
-  without-other : v ≢ k → without k (v ∷ l) ≡ v ∷ without k l
-  unfolding without
-  without-other e = keep-yes (λ u. not (eqb u k)) v l (ap not (ne-eqb v k e))
+  start-on p n k below passes near first = go (passing p n 0) (passing-up p n 0) (in-passing p n 0 (omega arith) (omega arith) passes) (λ v h. passing-in p n 0 h)
+    where
+      go : (l : List Stop) → Up 0 l → In k l → ((v : Stop) → In v l → (0 ≤ v) × (v < 0 + n) × (p v ≡ true))
+          → startFrom d (suc count) last l ≡ k ∷ startFrom d count k (without k l)
+      go [] u h passed = absurd (omega (arith, in-some h))
+      go (v ∷ vs) u h passed =
+          let w = nearest (d last) v vs in
+          let z = nearest-is (d last) 0 v vs u in
+          let y = passed w (z .there) in
+          let same : d last k ≤ d last w = near w (omega (arith, y .1)) (y .2) in
+          let e : w ≡ k = elim (decLt w k) [
+            | yes l ↦ absurd (omega (arith, first w l (y .2), z .low k h))
+            | no l ↦ omega (arith, z .first k h (omega (arith, z .low k h)))
+          ] in
+          start-step v vs e
 
 -- q passes what p does, but for k
 module _ (p q : Stop → Bool) (k : Stop) (gone : q k ≡ false) (others : (v : Stop) → v ≢ k → q v ≡ p v) where
   pub passing-without : (count a : ℕ) → without k (passing p count a) ≡ passing q count a
-  unfolding without passing keep rising
-  passing-without zero a = refl
-  passing-without (suc count) a = go (passing-without count (a + 1)) (ℕ-discrete a k) (either (p a))
-    where
-      rest : List Stop
-      rest = passing p count (a + 1)
-
-      go : without k rest ≡ passing q count (a + 1) → Dec (a ≡ k) → (p a ≡ true) ⊎ (p a ≡ false) → without k (passing p (suc count) a) ≡ passing q (suc count) a
-      go on (yes e) (inl y) =
-          ap (without k) (passing-yes p count a y) ∙ without-same k a rest e ∙ on ∙ sym (passing-no q count a (ap q e ∙ gone))
-      go on (yes e) (inr z) = ap (without k) (passing-no p count a z) ∙ on ∙ sym (passing-no q count a (ap q e ∙ gone))
-      go on (no e) (inl y) =
-          ap (without k) (passing-yes p count a y) ∙ without-other k a rest e ∙ ap (λ (l : List Stop). a ∷ l) on ∙ sym (passing-yes q count a (others a e ∙ y))
-      go on (no e) (inr z) = ap (without k) (passing-no p count a z) ∙ on ∙ sym (passing-no q count a (others a e ∙ z))
-
-  behind : (count a : ℕ) → k < a → passing q count a ≡ passing p count a
-  unfolding passing keep rising
-  behind zero a h = refl
-  behind (suc count) a h =
-      let on = behind count (a + 1) (omega arith) in
-      let e : q a ≡ p a = others a (omega arith) in
-      ⊎-elim
-      (λ y. passing-yes q count a (e ∙ y) ∙ ap (λ (l : List Stop). a ∷ l) on ∙ sym (passing-yes p count a y))
-      (λ z. passing-no q count a (e ∙ z) ∙ on ∙ sym (passing-no p count a z))
-      (either (p a))
+  unfolding passing
+  passing-without count a = keep-without p q k gone others (rising count a)
 
   -- there is one less
   pub passing-fewer : p k ≡ true → (count a : ℕ) → a ≤ k → k < a + count → length (passing p count a) ≡ suc (length (passing q count a))
-  passing-fewer passes zero a low high = absurd (omega arith)
-  passing-fewer passes (suc count) a low high = go (λ h. passing-fewer passes count (a + 1) (omega arith) (omega arith)) (ℕ-discrete a k) (either (p a))
-    where
-      go : (a < k → length (passing p count (a + 1)) ≡ suc (length (passing q count (a + 1)))) → Dec (a ≡ k) → (p a ≡ true) ⊎ (p a ≡ false)
-          → length (passing p (suc count) a) ≡ suc (length (passing q (suc count) a))
-      go on (yes e) y =
-          rw (passing-yes p count a (ap p e ∙ passes), passing-no q count a (ap q e ∙ gone), behind count (a + 1) (omega arith))
-      go on (no e) (inl y) = rw (passing-yes p count a y, passing-yes q count a (others a e ∙ y)) (ap suc (on (omega arith)))
-      go on (no e) (inr z) = rw (passing-no p count a z, passing-no q count a (others a e ∙ z)) (on (omega arith))
+  passing-fewer passes count a low high =
+      length-without k a (passing-up p count a) (in-passing p count a low high passes) ∙ ap (λ (l : List Stop). suc (length l)) (passing-without count a)
 
 -- one that passes
 pub record Passes (p : Stop → Bool) (n : ℕ) : Type 0 where
@@ -181,58 +83,13 @@ pub record Passes (p : Stop → Bool) (n : ℕ) : Type 0 where
   pub is : p stop ≡ true
 
 pub some-passes : (p : Stop → Bool) (count a : ℕ) → 0 < length (passing p count a) → Passes p (a + count)
-unfolding passing keep rising
-some-passes p zero a h = absurd (omega arith)
-some-passes p (suc count) a h =
-    ⊎-elim
-    (λ y. record { stop = a; below = omega arith; is = y })
-    (λ z. let x = some-passes p count (a + 1) (rw (passing-no p count a z) at h) in
-    record { stop = x .stop; below = omega (arith, x .below); is = x .is })
-    (either (p a))
+some-passes p count a h = go (passing p count a) (λ v z. passing-in p count a z) h
+  where
+    go : (l : List Stop) → ((v : Stop) → In v l → (a ≤ v) × (v < a + count) × (p v ≡ true)) → 0 < length l → Passes p (a + count)
+    go [] passed h = absurd (omega arith)
+    go (v ∷ l) passed h = let z = passed v top in record { stop = v; below = z .1; is = z .2 }
 
 -- all pass
 pub all-pass : (p : Stop → Bool) (count a : ℕ) → ((v : Stop) → a ≤ v → p v ≡ true) → passing p count a ≡ rising count a
-unfolding passing keep rising
-all-pass p zero a h = refl
-all-pass p (suc count) a h = passing-yes p count a (h a (omega arith)) ∙ ap (λ (l : List Stop). a ∷ l) (all-pass p count (a + 1) (λ v low. h v (omega arith)))
-
--- the start round's number: 1, then 3
-module _ (n : ℕ) (matrix : List Time) (round : Round) where
-  pub start-none : n < 1 → startNumber n matrix round ≡ 1
-  unfolding startNumber verdict within
-  start-none h = simp (lt-leb 1 n h)
-
-  pub start-many : 4096 < n → startNumber n matrix round ≡ 1
-  unfolding startNumber verdict within
-  start-many h = let some : 1 ≤ n = omega arith in simp (le-leb 1 n some, lt-leb n 4096 h)
-
-  module _ (some : 1 ≤ n) (few : n ≤ 4096) where
-    pub start-odd-matrix : length matrix ≢ n * n → startNumber n matrix round ≡ 3
-    unfolding startNumber verdict within
-    start-odd-matrix h = simp (le-leb 1 n some, le-leb n 4096 few, ne-eqb (length matrix) (n * n) h)
-
-    module _ (cells : length matrix ≡ n * n) where
-      pub start-odd-round : length round ≢ n → startNumber n matrix round ≡ 3
-      unfolding startNumber verdict within
-      start-odd-round h = simp (le-leb 1 n some, le-leb n 4096 few, eq-eqb (length matrix) (n * n) cells, ne-eqb (length round) n h)
-
-      pub start-fits : length round ≡ n → startNumber n matrix round ≡ 0
-      unfolding startNumber verdict within
-      start-fits h = simp (le-leb 1 n some, le-leb n 4096 few, eq-eqb (length matrix) (n * n) cells, eq-eqb (length round) n h)
-
-  -- what 0 says
-  pub record Fits : Type 0 where
-    pub some : 1 ≤ n
-    pub few : n ≤ 4096
-    pub cells : length matrix ≡ n * n
-    pub long : length round ≡ n
-
-  pub start-zero : startNumber n matrix round ≡ 0 → Fits
-  start-zero z = go (decLt n 1) (decLt 4096 n) (ℕ-discrete (length matrix) (n * n)) (ℕ-discrete (length round) n)
-    where
-      go : Dec (n < 1) → Dec (4096 < n) → Dec (length matrix ≡ n * n) → Dec (length round ≡ n) → Fits
-      go (yes h) b c d = absurd (omega (arith, start-none h))
-      go (no h) (yes b) c d = absurd (omega (arith, start-many b))
-      go (no h) (no b) (no c) d = absurd (omega (arith, start-odd-matrix (omega arith) (omega arith) c))
-      go (no h) (no b) (yes c) (no d) = absurd (omega (arith, start-odd-round (omega arith) (omega arith) c d))
-      go (no h) (no b) (yes c) (yes d) = record { some = omega arith; few = omega arith; cells = c; long = d }
+unfolding passing
+all-pass p count a h = keep-all p (rising count a) (λ v z. h v (rising-in count a z .0))

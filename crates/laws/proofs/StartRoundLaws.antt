@@ -15,7 +15,7 @@ use Rattle.laws.proofs.ChoiceLaws.{either-way}
 use Rattle.laws.proofs.PermLaws.{round-is}
 use Rattle.laws.proofs.RisingLaws.{rising-length, rising-once, zero-rising}
 use Rattle.laws.proofs.TallyLaws.{one-other, one-same}
-use Rattle.laws.proofs.WithoutLaws.{without-length, without-once, without-other, without-same}
+use Rattle.laws.proofs.WithoutLaws.{without-length, without-once, without-tally-other, without-tally-same}
 
 -- ---- the nearest is one of them
 nearest-in : (f : Stop → Time) (so : Stop) (vs : List Stop) → 0 < tally (so ∷ vs) (nearest f so vs)
@@ -37,8 +37,8 @@ startFrom-tally d (suc count) last (v ∷ vs) e h u =
     let k : tally l w ≡ 1 = omega (arith, nearest-in (d last) v vs, h w) in
     let rest = startFrom-tally d count w (without w l) (omega (arith, without-length w l, k)) (without-once w l h) u in
     elim (ℕ-discrete w u) [
-      | yes z ↦ (let q : tally (without w l) u ≡ 0 = ap (tally (without w l)) (sym z) ∙ without-same w l in let t : tally l u ≡ 1 = ap (tally l) (sym z) ∙ k in omega (arith, one-same z))
-      | no ne ↦ omega (arith, one-other ne, without-other w u l ne)
+      | yes z ↦ (let q : tally (without w l) u ≡ 0 = ap (tally (without w l)) (sym z) ∙ without-tally-same w l in let t : tally l u ≡ 1 = ap (tally l) (sym z) ∙ k in omega (arith, one-same z))
+      | no ne ↦ omega (arith, one-other ne, without-tally-other w u l ne)
     ]
 
 startFrom-length : (d : Legs) (count : ℕ) (last : Stop) (left : List Stop) → length left ≡ count → ((v : Stop) → tally left v ≤ 1) → length (startFrom d count last left) ≡ count

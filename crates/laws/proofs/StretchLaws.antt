@@ -4,8 +4,8 @@ use mathlib.Core.Path.{_≡_, refl, sym}
 use native.Mathlib.Omega.{arith}
 use lib.Dec.{leb, ltb}
 use lib.ListN.{length}
-use borrow.Author.Tests.{leb-false, leb-true, ltb-true}
-use Rattle.rules.specs.Journal.{Track, carryOut, doing, reversing}
+use borrow.Author.Tests.{le-ltb, leb-false, leb-true, lt-ltb, ltb-true}
+use Rattle.rules.specs.Journal.{Track, carryOut, doing, reversal, reversing}
 use Rattle.rules.specs.Lists.{at}
 use Rattle.rules.specs.Rewrite.{Stretch, lenOf, reverseAt, stretch}
 use Rattle.rules.specs.Ring.{next, prev, recount}
@@ -55,6 +55,15 @@ lenOf-is n s e len hs he h hl o = go (lenOf n s e) (lenOf-some n s e hs he) (len
     go m k l (high a p) (low b q) = absurd (omega arith)
     go m k l (high a p) (high b q) = omega arith
 
+-- "If twice the length exceeds n, the complement is reversed instead"
+pub stretch-others : (n : ℕ) (s e : Place) → n < 2 * lenOf n s e → stretch n s e ≡ record { start = next n e; len = n - lenOf n s e }
+unfolding stretch
+stretch-others n s e h = simp (lt-ltb _ _ h)
+
+pub stretch-these : (n : ℕ) (s e : Place) → 2 * lenOf n s e ≤ n → stretch n s e ≡ record { start = s; len = lenOf n s e }
+unfolding stretch
+stretch-these n s e h = simp (le-ltb _ _ h)
+
 -- what is really turned stands on the ring
 pub record OnRing (n : ℕ) (w : Stretch) : Type 0 where
   pub start-below : w .start < n
@@ -66,6 +75,16 @@ stretch-fits n s e hs he =
     either-way (OnRing n) (ltb n (2 * lenOf n s e))
     (record { start-below = next-below n e he; len-few = omega arith })
     (record { start-below = hs; len-few = lenOf-few n s e hs he })
+
+-- "Under 2, nothing moves and nothing is journalled"
+module _ (s e : Place) (t : Track) (start : Place) (len : ℕ) (is : record { start = start; len = len } ≡ stretch (length (t .round)) s e) where
+  pub reversing-short : len < 2 → reversing s e t ≡ t
+  unfolding reversing
+  reversing-short h = rw (← is) (simp (lt-ltb _ _ h))
+
+  pub reversing-long : 2 ≤ len → reversing s e t ≡ doing (reversal start len) t
+  unfolding reversing
+  reversing-long h = rw (← is) (simp (le-ltb _ _ h))
 
 -- the round that it leaves
 pub reversing-is : (s e : Place) (t : Track) → stretch (length t.round) s e .start ≤ length t.round

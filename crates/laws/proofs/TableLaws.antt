@@ -15,7 +15,8 @@ use Rattle.rules.specs.Exact.{orders}
 use Rattle.rules.specs.Table.{member, members, unreached, tableWord, tableOf}
 use Rattle.laws.proofs.ChoiceLaws.{either-way}
 use Rattle.laws.proofs.RisingLaws.{rising-at, rising-length}
-use Rattle.laws.proofs.InLaws.{In, up-without, length-without}
+use Rattle.laws.proofs.InLaws.{In}
+use Rattle.laws.proofs.WithoutLaws.{up-without, length-without}
 use Rattle.laws.proofs.SetLaws.{members-up, members-in, members-few}
 use Rattle.laws.proofs.OnwardLaws.{onward, lowest, lowest-same, onward-step, Least, onward-least, least-low}
 

@@ -7,17 +7,18 @@ use mathlib.Core.List.{List, [], _++_, _∷_, reverse, reverse-cons}
 use native.Mathlib.Decide.{ℕ-discrete}
 use native.Mathlib.Nat.{le-of-suc-le-suc, not-suc-le-zero}
 use native.Mathlib.Omega.{arith}
-use lib.Dec.{eqb, ltb}
+use lib.Dec.{eqb}
 use lib.ListN.{drop, length, length-set, set, take, take-append-drop}
 use lib.Seq.{getD-set-other, getD-set-same}
-use borrow.Author.Tests.{eq-eqb, ltb-true, ne-eqb}
+use borrow.Author.Tests.{eq-eqb, ne-eqb}
 use Rattle.rules.specs.Journal.{Entry, carryOut, inRange, reversal, rotation, swap, takeBack, undoAll}
 use Rattle.rules.specs.Lists.{at, every, one, rising, tally}
 use Rattle.rules.specs.Rewrite.{exchangeFront, from, reverseAt, reverseFront, rotateAt, swapAt}
 use Rattle.rules.specs.Ring.{isRound, turn}
 use Rattle.rules.specs.Words.{Place, Round, Stop}
-use Rattle.laws.proofs.ChoiceLaws.{and-true, both-true}
+use Rattle.laws.proofs.ChoiceLaws.{both-true}
 use Rattle.laws.proofs.JournalLaws.{carryOut-length, takeBack-length, undoAll-length}
+use Rattle.laws.proofs.RangeLaws.{swap-in}
 use Rattle.laws.proofs.RewriteLaws.{parts}
 
 -- a stop counts for itself alone
@@ -78,20 +79,16 @@ module _ (v : Stop) where
 
   -- an entry in range, carried out and taken back
   pub tally-carryOut : (e : Entry) (r : Round) → inRange (length r) e ≡ true → tally (carryOut e r) v ≡ tally r v
-  unfolding carryOut inRange
+  unfolding carryOut
   tally-carryOut (reversal s l) r h = tally-reverseAt s l r
   tally-carryOut (rotation s a b c) r h = tally-rotateAt s a b c r
-  tally-carryOut (swap i j) r h =
-      let g = and-true (ltb i (length r)) (ltb j (length r)) h in
-      tally-swapAt i j r (ltb-true i (length r) (g .0)) (ltb-true j (length r) (g .1))
+  tally-carryOut (swap i j) r h = let g = swap-in (length r) i j h in tally-swapAt i j r (g .0) (g .1)
 
   pub tally-takeBack : (e : Entry) (r : Round) → inRange (length r) e ≡ true → tally (takeBack e r) v ≡ tally r v
-  unfolding takeBack inRange
+  unfolding takeBack
   tally-takeBack (reversal s l) r h = tally-reverseAt s l r
   tally-takeBack (rotation s a b c) r h = tally-rotateAt s c b a r
-  tally-takeBack (swap i j) r h =
-      let g = and-true (ltb i (length r)) (ltb j (length r)) h in
-      tally-swapAt i j r (ltb-true i (length r) (g .0)) (ltb-true j (length r) (g .1))
+  tally-takeBack (swap i j) r h = let g = swap-in (length r) i j h in tally-swapAt i j r (g .0) (g .1)
 
   -- entries in range, taken back
   pub tally-undoAll : (es : List Entry) (r : Round) → every (inRange (length r)) es ≡ true → tally (undoAll es r) v ≡ tally r v

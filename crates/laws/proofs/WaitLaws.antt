@@ -1,7 +1,7 @@
 -- 01, "a ring of n places": what a stop pushed and a stop taken do to the words, the head and the flags of a queue.
 use Prim.Native.Nat.{_%_, _+_, _<_, _≤_, suc, zero, ℕ}
 use mathlib.Core.Path.{_∙_, _≡_, ap, refl, sym}
-use mathlib.Core.Bool.{Bool, _||_, not, true}
+use mathlib.Core.Bool.{Bool, _||_, false, not, true}
 use mathlib.Core.List.{List, [], _++_, _∷_}
 use native.Mathlib.Numerals.{add-one}
 use native.Mathlib.Omega.{arith}
@@ -24,12 +24,11 @@ unfolding waiting
 waiting-length ws head count h = length-take-le count (turn head ws) (omega (arith, turn-length head ws))
 
 -- a stop is pushed: its word is written behind those that wait
-pub waiting-push : (ws : List ℕ) (head : Place) (count : ℕ) (v : Stop) → head < length ws → count < length ws
-    → waiting (set ws ((head + count) % length ws) v) head (count + 1) ≡ waiting ws head count ++ (v ∷ [])
+pub waiting-push : (ws : List ℕ) (head : Place) (count : ℕ) (p : Place) (v : Stop) → head < length ws → count < length ws → On (length ws) head count p
+    → waiting (set ws p v) head (count + 1) ≡ waiting ws head count ++ (v ∷ [])
 unfolding waiting
-waiting-push ws head count v hh hc =
-    let p = (head + count) % length ws in
-    let e : turn head (set ws p v) ≡ set (turn head ws) count v = turn-set head count p v ws (omega arith) hc (on-mod (length ws) head count hh hc) in
+waiting-push ws head count p v hh hc o =
+    let e : turn head (set ws p v) ≡ set (turn head ws) count v = turn-set head count p v ws (omega arith) hc o in
     rw (add-one count, e) (take-suc-set (turn head ws) count v (omega (arith, turn-length head ws)))
 
 -- the first is taken: the head moves on
@@ -71,6 +70,21 @@ flagsOf-length n q = table-length (flag q) n
 pub flagsOf-at : (n : ℕ) (q : List Stop) (v : Stop) → v < n → at (flagsOf n q) v ≡ (if has q v then 1 else 0)
 unfolding flagsOf
 flagsOf-at n q v h = table-at (flag q) n v h
+
+-- down, he does not; up, he does
+pub flag-down : (n : ℕ) (q : List Stop) (v : Stop) → v < n → at (flagsOf n q) v ≡ 0 → has q v ≡ false
+flag-down n q v h e = go (has q v) (sym (flagsOf-at n q v h) ∙ e)
+  where
+    go : (b : Bool) → bit b ≡ 0 → b ≡ false
+    go true g = absurd (omega arith)
+    go false g = refl
+
+pub flag-up : (n : ℕ) (q : List Stop) (v : Stop) → v < n → 0 < at (flagsOf n q) v → has q v ≡ true
+flag-up n q v h e = go (has q v) (omega (arith, flagsOf-at n q v h))
+  where
+    go : (b : Bool) → 0 < bit b → b ≡ true
+    go true g = refl
+    go false g = absurd (omega arith)
 
 -- a stop is pushed: its flag is 1
 pub flagsOf-push : (n : ℕ) (q : List Stop) (v : Stop) → v < n → flagsOf n (push q v) ≡ set (flagsOf n q) v 1

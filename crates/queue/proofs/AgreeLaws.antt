@@ -10,9 +10,10 @@ use Rattle.rules.specs.Words.{Stop, Place}
 use Rattle.rules.specs.Lists.{once, same, every}
 use Rattle.rules.specs.Queue.{waiting, flagsOf}
 use Rattle.rules.specs.Numbers.{agree}
-use Rattle.laws.proofs.RingRisingLaws.{both-true, and-true}
-use Rattle.laws.proofs.RingWaitLaws.{once-single, single-once, every-below, below-every}
-use Rattle.laws.proofs.RoundCheckLaws.{same-self, same-equal}
+use Rattle.laws.proofs.ChoiceLaws.{and-true, true-and}
+use Rattle.laws.proofs.CheckLaws.{same-is, same-self}
+use Rattle.laws.proofs.EveryLaws.{below-every, every-below}
+use Rattle.laws.proofs.QueueLaws.{once-tally, tally-once}
 use Rattle.queue.specs.Lines.{InLine}
 
 module _ (queue flags : List ℕ) (head : Place) (count : ℕ) where
@@ -21,17 +22,17 @@ module _ (queue flags : List ℕ) (head : Place) (count : ℕ) where
   agree-line few e =
       let n : ℕ = length queue in
       let q : List Stop = waiting queue head count in
-      let b4 = both-true (ltb head n && leb count n && every (λ v. ltb v n) q && once q) (same flags (flagsOf n q)) e in
-      let b3 = both-true (ltb head n && leb count n && every (λ v. ltb v n) q) (once q) (b4 .0) in
-      let b2 = both-true (ltb head n && leb count n) (every (λ v. ltb v n) q) (b3 .0) in
-      let b1 = both-true (ltb head n) (leb count n) (b2 .0) in
+      let b4 = and-true (ltb head n && leb count n && every (λ v. ltb v n) q && once q) (same flags (flagsOf n q)) e in
+      let b3 = and-true (ltb head n && leb count n && every (λ v. ltb v n) q) (once q) (b4 .0) in
+      let b2 = and-true (ltb head n && leb count n) (every (λ v. ltb v n) q) (b3 .0) in
+      let b1 = and-true (ltb head n) (leb count n) (b2 .0) in
       record {
         few = few;
         start = ltb-true head n (b1 .0);
         room = leb-true count n (b1 .1);
         stops = record { below = every-below n q (b2 .1) };
-        single = once-single q (b3 .1);
-        agreed = same-equal flags (flagsOf n q) (b4 .1);
+        single = once-tally q (b3 .1);
+        agreed = same-is flags (flagsOf n q) (b4 .1);
       }
 
   pub line-agrees : InLine queue flags head count → agree (length queue) queue flags head count ≡ true
@@ -39,10 +40,10 @@ module _ (queue flags : List ℕ) (head : Place) (count : ℕ) where
   line-agrees i =
       let n : ℕ = length queue in
       let q : List Stop = waiting queue head count in
-      and-true (ltb head n && leb count n && every (λ v. ltb v n) q && once q) (same flags (flagsOf n q))
-      (and-true (ltb head n && leb count n && every (λ v. ltb v n) q) (once q)
-      (and-true (ltb head n && leb count n) (every (λ v. ltb v n) q)
-      (and-true (ltb head n) (leb count n) (lt-ltb head n (i .start)) (le-leb count n (i .room)))
+      true-and (ltb head n && leb count n && every (λ v. ltb v n) q && once q) (same flags (flagsOf n q))
+      (true-and (ltb head n && leb count n && every (λ v. ltb v n) q) (once q)
+      (true-and (ltb head n && leb count n) (every (λ v. ltb v n) q)
+      (true-and (ltb head n) (leb count n) (lt-ltb head n (i .start)) (le-leb count n (i .room)))
       (below-every n q (i .stops .below)))
-      (single-once q (i .single)))
+      (tally-once q (i .single)))
       (ap (same flags) (sym (i .agreed)) ∙ same-self flags)

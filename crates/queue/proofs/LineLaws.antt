@@ -1,29 +1,25 @@
 -- The queue on its ring of words: one stop more behind, one less in front.
-use Prim.Native.Nat.{ℕ, zero, suc, _+_, _-_, _≤_, _<_}
+use Prim.Native.Nat.{ℕ, suc, _+_, _-_, _≤_, _<_}
 use mathlib.Core.Path.{_≡_, refl, sym, ap, _∙_, subst}
 use mathlib.Core.Bool.{true, false}
 use mathlib.Core.List.{List, [], _∷_, _++_}
 use native.Mathlib.Omega.{arith}
 use native.Mathlib.Decide.{decLt}
-use native.Mathlib.Numerals.{add-one}
 use lib.ListN.{length, set, length-set, length-append, List·getD-append}
-use lib.Seq.{length-take-le, take-suc-set, getD-take, getD-at, ext-getD}
+use lib.Seq.{getD-take, getD-at}
 use Rattle.rules.specs.Words.{Stop, Place}
 use Rattle.rules.specs.Lists.{at, has, tally}
 use Rattle.rules.specs.Ring.{next, turn}
 use Rattle.rules.specs.Queue.{push, waiting, flagsOf}
-use Rattle.laws.proofs.RingPlaceLaws.{next-lt}
-use Rattle.laws.proofs.RingWaitLaws.{single-push, single-take, single-gone, push-new, flag-down, flag-up, flags-push, flags-take, length-flags, room-to-wait}
+use Rattle.laws.proofs.EveryLaws.{at-below}
+use Rattle.laws.proofs.PlaceLaws.{next-below}
+use Rattle.laws.proofs.QueueLaws.{once-room, push-new, single-push, single-take, tally-once}
+use Rattle.laws.proofs.WaitLaws.{flag-down, flag-up, flagsOf-length, flagsOf-push, flagsOf-take, waiting-length, waiting-push, waiting-take}
 use Rattle.ring.specs.Around.{around}
 use Rattle.ring.specs.Legs.{Stops}
-use Rattle.ring.proofs.AroundLaws.{around-0, around-around, next-around}
-use Rattle.laws.proofs.TurnBackLaws.{length-turn}
-use Rattle.ring.proofs.TurnAtLaws.{at-turn, set-turn}
+use Rattle.ring.proofs.AroundLaws.{on}
+use Rattle.ring.proofs.TurnAtLaws.{at-turn}
 use Rattle.queue.specs.Lines.{InLine, Waits, Took}
-
-pub length-waiting : (queue : List ℕ) (head : Place) (count : ℕ) → count ≤ length queue → length (waiting queue head count) ≡ count
-unfolding waiting
-length-waiting queue head count h = length-take-le count (turn head queue) (omega (arith, length-turn head queue))
 
 -- who waits i places behind the first
 pub at-waiting : (queue : List ℕ) (head : Place) (count i : ℕ) → head < length queue → count ≤ length queue → i < count
@@ -32,12 +28,6 @@ unfolding waiting
 at-waiting queue head count i hh hc hi = getD-take count (turn head queue) i 0 hi ∙ at-turn head i queue hh (omega arith)
 
 -- ---- one more
-waiting-more : (queue : List ℕ) (head : Place) (count v : ℕ) → head < length queue → count < length queue
-    → waiting (set queue (around (length queue) head count) v) head (count + 1) ≡ waiting queue head count ++ (v ∷ [])
-unfolding waiting
-waiting-more queue head count v h g =
-    rw (add-one count, set-turn head count v queue h g) (take-suc-set (turn head queue) count v (omega (arith, length-turn head queue)))
-
 stops-more : (q : List Stop) (v n : ℕ) → Stops q n → v < n → Stops (q ++ (v ∷ [])) n
 stops-more q v n s h = record { below = λ i g. go i g (decLt i (length q)) }
   where
@@ -58,8 +48,8 @@ module _ (queue flags : List ℕ) (head : Place) (count : ℕ) (i : InLine queue
   -- there is room for one who does not wait
   pub line-room : (v : Stop) → v < length queue → has (waiting queue head count) v ≡ false → count < length queue
   line-room v h gone =
-      let r = room-to-wait (length queue) (waiting queue head count) v (i .stops .below) (i .single) h gone in
-      omega (arith, length-waiting queue head count (i .room))
+      let r = once-room (length queue) (waiting queue head count) v (tally-once (waiting queue head count) (i .single)) (at-below (length queue) (waiting queue head count) (i .stops .below)) h gone in
+      omega (arith, waiting-length queue head count (i .room))
 
   pub line-pushed : (v : Stop) → v < length queue → has (waiting queue head count) v ≡ false
       → Waits (push (waiting queue head count) v) head (set queue (around (length queue) head count) v) (set flags v 1) head (count + 1)
@@ -68,7 +58,7 @@ module _ (queue flags : List ℕ) (head : Place) (count : ℕ) (i : InLine queue
       let q : List Stop = waiting queue head count in
       let r : count < n = line-room v h gone in
       let l : length (set queue (around n head count) v) ≡ n = length-set queue (around n head count) v in
-      let w : waiting (set queue (around n head count) v) head (count + 1) ≡ q ++ (v ∷ []) = waiting-more queue head count v (i .start) r in
+      let w : waiting (set queue (around n head count) v) head (count + 1) ≡ q ++ (v ∷ []) = waiting-push queue head count (around n head count) v (i .start) r (on n head count) in
       record {
         is = w ∙ sym (push-new q v gone);
         head-is = refl;
@@ -78,34 +68,19 @@ module _ (queue flags : List ℕ) (head : Place) (count : ℕ) (i : InLine queue
           room = omega arith;
           stops = rw (l, w) (stops-more q v n (i .stops) h);
           single = rw w (single-push q v (i .single) gone);
-          agreed = ap (λ (f : List ℕ). set f v 1) (i .agreed) ∙ flags-push n q v h ∙ sym (rw (l, w));
+          agreed = ap (λ (f : List ℕ). set f v 1) (i .agreed) ∙ sym (flagsOf-push n q v h) ∙ ap (flagsOf n) (push-new q v gone) ∙ sym (rw (l, w));
         };
       }
 
   -- ---- one less
   waiting-less : 0 < count → waiting queue head count ≡ at queue head ∷ waiting queue (next (length queue) head) (count - 1)
   waiting-less h =
-      let n : ℕ = length queue in
-      let hn : next n head < n = next-lt n head (i .start) in
-      let c : count - 1 ≤ n = omega (arith, i .room) in
-      let l : length (waiting queue head count) ≡ count = length-waiting queue head count (i .room) in
-      let l′ : length (waiting queue (next n head) (count - 1)) ≡ count - 1 = length-waiting queue (next n head) (count - 1) c in
-      ext-getD 0 (waiting queue head count) (at queue head ∷ waiting queue (next n head) (count - 1)) (omega arith) (λ k g. go k (omega arith) hn c)
-    where
-      go : (k : ℕ) → k < count → next (length queue) head < length queue → count - 1 ≤ length queue
-          → at (waiting queue head count) k ≡ at (at queue head ∷ waiting queue (next (length queue) head) (count - 1)) k
-      go zero g hn c = at-waiting queue head count 0 (i .start) (i .room) g ∙ ap (at queue) (around-0 (length queue) head (i .start))
-      go (suc k) g hn c =
-          let n : ℕ = length queue in
-          let s : next n head ≡ around n head 1 = ap (next n) (sym (around-0 n head (i .start))) ∙ next-around n head 0 (i .start) (omega (arith, i .room)) in
-          let e : around n (next n head) k ≡ around n head (1 + k) = ap (λ (m : ℕ). around n m k) s ∙ around-around n head 1 k (i .start) (omega (arith, i .room)) in
-          let q : 1 + k ≡ suc k = omega arith in
-          at-waiting queue head count (suc k) (i .start) (i .room) g ∙ ap (at queue) (sym (e ∙ ap (around n head) q))
-          ∙ sym (at-waiting queue (next n head) (count - 1) k hn c (omega arith))
+      let q : count ≡ count - 1 + 1 = omega arith in
+      ap (waiting queue head) q ∙ waiting-take queue head (count - 1) (i .start) (omega (arith, i .room))
 
   pub first-below : 0 < count → at queue head < length queue
   first-below h =
-      let l : length (waiting queue head count) ≡ count = length-waiting queue head count (i .room) in
+      let l : length (waiting queue head count) ≡ count = waiting-length queue head count (i .room) in
       let e : at (waiting queue head count) 0 ≡ at queue head = ap (λ (x : List Stop). at x 0) (waiting-less h) in
       omega (arith, i .stops .below 0 (omega arith))
 
@@ -124,16 +99,16 @@ module _ (queue flags : List ℕ) (head : Place) (count : ℕ) (i : InLine queue
         count-is = omega arith;
         line = record {
           few = i .few;
-          start = next-lt n head (i .start);
+          start = next-below n head (i .start);
           room = omega (arith, i .room);
           stops = record { below = λ k g. b .below (suc k) (omega arith) };
           single = single-take v p s;
-          agreed = ap (λ (f : List ℕ). set f v 0) (i .agreed ∙ ap (flagsOf n) w) ∙ flags-take n p v (b .below 0 (omega arith)) (single-gone v p s);
+          agreed = ap (λ (f : List ℕ). set f v 0) (i .agreed ∙ ap (flagsOf n) w) ∙ sym (flagsOf-take n v p (b .below 0 (omega arith)) (tally-once (v ∷ p) s));
         };
       }
 
   pub length-flags-are : length flags ≡ length queue
-  length-flags-are = ap length (i .agreed) ∙ length-flags (length queue) (waiting queue head count)
+  length-flags-are = ap length (i .agreed) ∙ flagsOf-length (length queue) (waiting queue head count)
 
   -- nobody waits: the head may as well be 0
   pub line-cleared : count ≡ 0 → Waits [] 0 queue flags 0 0

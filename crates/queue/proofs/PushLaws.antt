@@ -11,7 +11,7 @@ use Rattle.rules.specs.Lists.{at}
 use Rattle.rules.specs.Ring.{turn}
 use Rattle.rules.specs.Queue.{push, pushAll}
 use Rattle.ring.specs.Around.{around}
-use Rattle.laws.proofs.TurnBackLaws.{length-turn}
+use Rattle.laws.proofs.TurnLaws.{turn-length}
 use Rattle.ring.proofs.TurnAtLaws.{at-turn}
 
 pub push-turn : (q q′ l : List Stop) (i : ℕ) (goal : List Stop) → i < length l → q′ ≡ push q (at l i) → pushAll q (drop i l) ≡ goal → pushAll q′ (drop (i + 1) l) ≡ goal
@@ -25,7 +25,7 @@ push-done q l i goal h g = rw (drop-of-length-le l h) at g
 -- the stops of so many places from s on
 module _ (s : Place) (places : ℕ) (r : Round) (hs : s < length r) (hp : places ≤ length r) where
   pub length-places : length (take places (turn s r)) ≡ places
-  length-places = length-take-le places (turn s r) (omega (arith, length-turn s r))
+  length-places = length-take-le places (turn s r) (omega (arith, turn-length s r))
 
   pub at-places : (i : ℕ) → i < places → at (take places (turn s r)) i ≡ at r (around (length r) s i)
   at-places i h = getD-take places (turn s r) i 0 h ∙ at-turn s i r hs (omega arith)

@@ -9,10 +9,10 @@ use Rattle.rules.specs.Words.{Place, Round}
 use Rattle.rules.specs.Lists.{at}
 use Rattle.rules.specs.Ring.{next, prev, turn}
 use Rattle.rules.specs.Rewrite.{from, reverseFront, reverseAt, swapAt}
-use Rattle.laws.proofs.RingTiedLaws.{length-swap}
+use Rattle.laws.proofs.RewriteLaws.{swapAt-length}
 use Rattle.ring.specs.Around.{wrapped, around}
 use Rattle.ring.proofs.AroundLaws.{next-around, prev-around, around-0}
-use Rattle.laws.proofs.TurnBackLaws.{length-turn, turn-back}
+use Rattle.laws.proofs.TurnLaws.{turn-length, turn-back}
 use Rattle.ring.proofs.TurnAtLaws.{swap-turn}
 
 -- k exchanges, the places i and j moving towards each other on a ring of n
@@ -27,14 +27,14 @@ closing (suc k) a b ys = closing k (a + 1) (b - 1) (swapAt a b ys)
 
 pub length-exchanges : (k n i j : ℕ) (xs : List ℕ) → length (exchanges k n i j xs) ≡ length xs
 length-exchanges zero n i j xs = refl
-length-exchanges (suc k) n i j xs = length-exchanges k n _ _ (swapAt i j xs) ∙ length-swap i j xs
+length-exchanges (suc k) n i j xs = length-exchanges k n _ _ (swapAt i j xs) ∙ swapAt-length i j xs
 
 exchanges-turned : (k n s a b : ℕ) (xs : List ℕ) → length xs ≡ n → s < n → a + k ≤ n → k ≤ b → b < n
     → turn s (exchanges k n (around n s a) (around n s b) xs) ≡ closing k a b (turn s xs)
 exchanges-turned zero n s a b xs e hs ha hk hb = refl
 exchanges-turned (suc k) n s a b xs e hs ha hk hb =
     let ys : List ℕ = swapAt (around n s a) (around n s b) xs in
-    let e′ : length ys ≡ n = length-swap _ _ xs ∙ e in
+    let e′ : length ys ≡ n = swapAt-length _ _ xs ∙ e in
     let ih : turn s (exchanges k n (around n s (a + 1)) (around n s (b - 1)) ys) ≡ closing k (a + 1) (b - 1) (turn s ys)
     = exchanges-turned k n s (a + 1) (b - 1) ys e′ hs (omega arith) (omega arith) (omega arith) in
     let w : turn s (swapAt (around (length xs) s a) (around (length xs) s b) xs) ≡ swapAt a b (turn s xs)
@@ -96,21 +96,10 @@ exchanges-starts s k xs hs h1 hk =
     let r : List ℕ = exchanges (k / 2) n (around n s 0) (around n s (k - 1)) xs in
     let e : length r ≡ n = length-exchanges (k / 2) n _ _ xs in
     let a : turn s r ≡ closing (k / 2) 0 (k - 1) (turn s xs) = exchanges-turned (k / 2) n s 0 (k - 1) xs refl hs (omega arith) (omega arith) (omega arith) in
-    let b : closing (k / 2) 0 (k - 1) (turn s xs) ≡ reverseFront k (turn s xs) = closing-front k (turn s xs) h1 (omega (arith, length-turn s xs)) in
+    let b : closing (k / 2) 0 (k - 1) (turn s xs) ≡ reverseFront k (turn s xs) = closing-front k (turn s xs) h1 (omega (arith, turn-length s xs)) in
     let w : r ≡ reverseAt s k xs = sym (turn-back s r (omega arith)) ∙ ap (λ (m : ℕ). turn (m - s) (turn s r)) e ∙ ap (turn (n - s)) (a ∙ b) in
     let q : s + (k - 1) ≡ s + k - 1 = omega arith in
     (λ i. exchanges (k / 2) n (sym (around-0 n s hs) i) (wrapped n (sym q i)) xs) ∙ w
-
--- fewer than two places: nothing moves
-pub reverse-short : (s k : ℕ) (xs : List ℕ) → s < length xs → k < 2 → reverseAt s k xs ≡ xs
-unfolding reverseAt from reverseFront
-reverse-short s k xs hs h = ap (turn (length xs - s)) (go k (turn s xs) h) ∙ turn-back s xs (omega arith)
-  where
-    go : (k : ℕ) (ys : List ℕ) → k < 2 → reverse (take k ys) ++ drop k ys ≡ ys
-    go zero ys h = refl
-    go (suc zero) [] h = refl
-    go (suc zero) (y ∷ ys) h = refl
-    go (suc (suc k)) ys h = absurd (omega arith)
 
 -- a turn
 pub exchanges-turn : (k n i j : ℕ) (xs goal : List ℕ) → 0 < k → exchanges k n i j xs ≡ goal → exchanges (k - 1) n (next n i) (prev n j) (swapAt i j xs) ≡ goal

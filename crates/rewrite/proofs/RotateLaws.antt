@@ -13,7 +13,7 @@ use Rattle.rules.specs.Contracts.{Tied}
 use Rattle.ring.specs.Around.{around}
 use Rattle.ring.specs.Legs.{Stops}
 use Rattle.ring.proofs.AroundLaws.{around-lt, around-0, around-around}
-use Rattle.laws.proofs.TurnBackLaws.{length-turn, turn-back}
+use Rattle.laws.proofs.TurnLaws.{turn-length, turn-back}
 use Rattle.ring.proofs.TurnAtLaws.{at-turn}
 use Rattle.rewrite.specs.Writes.{writes, placings}
 use Rattle.rewrite.specs.Rewritten.{Rewritten}
@@ -134,7 +134,7 @@ rotated-is : (s a b c : ℕ) (xs : List ℕ) → s < length xs → a + b + c ≤
 unfolding rotateAt from exchangeFront
 rotated-is s a b c xs hs hl =
     let ys : List ℕ = turn s xs in
-    let ln : length ys ≡ length xs = length-turn s xs in
+    let ln : length ys ≡ length xs = turn-length s xs in
     let z : List ℕ = take c (drop (a + b) ys) in
     let y : List ℕ = take b (drop a ys) in
     let x : List ℕ = take a ys in
@@ -153,7 +153,7 @@ rotated-tied : (s a b c : ℕ) (xs ps : List ℕ) → Tied xs ps → s < length 
 unfolding three
 rotated-tied s a b c xs ps t hs hl vs e =
     let ys : List ℕ = turn s xs in
-    let ln : length ys ≡ length xs = length-turn s xs in
+    let ln : length ys ≡ length xs = turn-length s xs in
     let h : a + b + c ≤ length ys = omega arith in
     let l : length vs ≡ c + (b + a) = ap length e ∙ l-three a b c ys h in
     tied-window (Rot a b c) s vs xs ps t (record {
@@ -175,7 +175,7 @@ pub rotate-done : (s a b c : ℕ) (xs ps z y x r1 p1 r2 p2 r3 p3 : List ℕ) (i 
 rotate-done s a b c xs ps z y x r1 p1 r2 p2 r3 p3 i j t hs hl ez ey ex ei er1 ep1 ej er2 ep2 er3 ep3 =
     let n : ℕ = length xs in
     let ys : List ℕ = turn s xs in
-    let h : a + b + c ≤ length ys = omega (arith, length-turn s xs) in
+    let h : a + b + c ≤ length ys = omega (arith, turn-length s xs) in
     let l1 : length r1 ≡ n = ap length er1 ∙ length-writes n s z xs in
     let l2 : length r2 ≡ n = ap length er2 ∙ length-writes (length r1) i y r1 ∙ l1 in
     let nz : length z ≡ c = ap length ez ∙ lz a b c ys h in
@@ -194,7 +194,7 @@ pub put-ok : (s u w i : ℕ) (xs ps r p part : List ℕ) → Tied xs ps → s < 
     → part ≡ take w (drop u (turn s xs)) → u + w ≤ length xs
     → ((length r ≤ 4096) × (length p ≡ length r)) × ((i < length r) × ((length part ≤ length r) × Stops part (length r)))
 put-ok s u w i xs ps r p part t hs lr lp hi e h =
-    let ln : length (turn s xs) ≡ length xs = length-turn s xs in
+    let ln : length (turn s xs) ≡ length xs = turn-length s xs in
     let l : length part ≡ w = ap length e ∙ length-mid u w (turn s xs) (omega arith) in (
       (omega (arith, t .few), lp ∙ sym lr),
       (

@@ -12,7 +12,7 @@ use Rattle.rules.specs.Ring.{turn}
 use Rattle.rules.specs.Contracts.{Tied}
 use Rattle.ring.specs.Around.{around}
 use Rattle.ring.proofs.AroundLaws.{around-lt, around-0, around-inj, Steps, steps-to}
-use Rattle.laws.proofs.TurnBackLaws.{length-turn}
+use Rattle.laws.proofs.TurnLaws.{turn-length}
 use Rattle.ring.proofs.TurnAtLaws.{at-turn}
 use Rattle.rewrite.specs.Writes.{writes, placings}
 use Rattle.rewrite.proofs.WriteLaws.{turn-writes, length-writes, length-placings, placings-at, Has, has}
@@ -24,7 +24,7 @@ turn-written s vs xs hs h =
     let n : ℕ = length xs in
     let e : around n s 0 ≡ s = around-0 n s hs in
     let w : turn s (writes n (around n s 0) vs xs) ≡ sets (turn s xs) 0 vs = turn-writes n s 0 vs xs refl hs (omega arith) in
-    let q : sets (turn s xs) 0 vs ≡ vs ++ drop (0 + length vs) (turn s xs) = sets-eq vs (turn s xs) 0 (omega (arith, length-turn s xs)) in
+    let q : sets (turn s xs) 0 vs ≡ vs ++ drop (0 + length vs) (turn s xs) = sets-eq vs (turn s xs) 0 (omega (arith, turn-length s xs)) in
     ap (λ (m : ℕ). turn s (writes n m vs xs)) (sym e) ∙ w ∙ q ∙ ap (λ (m : ℕ). vs ++ drop m (turn s xs)) (zero-add (length vs))
 
 -- R j i says that the j-th stop that is written is the i-th of those that stood there

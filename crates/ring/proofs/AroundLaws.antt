@@ -5,14 +5,11 @@ use native.Mathlib.Omega.{arith}
 use native.Mathlib.Decide.{decLt}
 use borrow.Author.Tests.{lt-ltb, le-ltb}
 use Rattle.rules.specs.Ring.{next, prev}
-use Rattle.laws.proofs.RingPlaceLaws.{Next, to-0, to-more, next-view, Prev, to-last, to-less, prev-view}
+use Rattle.laws.proofs.PlaceLaws.{Next, to-0, to-more, next-view, Prev, to-last, to-less, prev-view}
+use Rattle.laws.proofs.TurnLaws.{On, low, high}
 use Rattle.ring.specs.Around.{wrapped, around}
 
--- the two cases, of a place x that is a steps after s
-pub data On (n s a x : ℕ) : Type 0 where
-  low : s + a < n → x ≡ s + a → On n s a x
-  high : n ≤ s + a → x + n ≡ s + a → On n s a x
-
+-- it is the place that is a steps after s
 pub on : (n s a : ℕ) → On n s a (around n s a)
 unfolding around wrapped
 on n s a = go (decLt (s + a) n)

@@ -9,10 +9,10 @@ use lib.Seq.{drop-cons, getD-at, getD-take, length-take-le}
 use Rattle.rules.specs.Words.{Stop, Place, Time, Round, Legs}
 use Rattle.rules.specs.Lists.{at}
 use Rattle.rules.specs.Ring.{next, turn, along, path, pathCost, lap, recount}
-use Rattle.laws.proofs.RingPlaceLaws.{Next, to-0, to-more, next-view}
+use Rattle.laws.proofs.PlaceLaws.{Next, to-0, to-more, next-view}
 use Rattle.ring.specs.Around.{around}
 use Rattle.ring.proofs.AroundLaws.{next-around}
-use Rattle.laws.proofs.TurnBackLaws.{length-turn}
+use Rattle.laws.proofs.TurnLaws.{turn-length}
 use Rattle.ring.proofs.TurnAtLaws.{at-turn}
 
 -- the legs from the stop at i on
@@ -84,7 +84,7 @@ module _ (d : Legs) (start : Place) (legs : ℕ) (r : Round) where
 
   length-part : legs < length r → length (part start legs r) ≡ legs + 1
   unfolding part
-  length-part h = length-take-le (legs + 1) (turn start r) (omega (arith, length-turn start r))
+  length-part h = length-take-le (legs + 1) (turn start r) (omega (arith, turn-length start r))
 
   at-part : start < length r → legs < length r → (i : ℕ) → i ≤ legs → at (part start legs r) i ≡ at r (around (length r) start i)
   unfolding part

@@ -1,51 +1,24 @@
 -- The ring read from a place on: what stands so many steps on, and a store and an exchange there.
-use Prim.Native.Nat.{ℕ, _+_, _-_, _≤_, _<_}
-use mathlib.Core.Path.{_≡_, sym, ap, _∙_}
-use mathlib.Core.List.{List, [], _∷_, _++_}
+use Prim.Native.Nat.{ℕ, _<_}
+use mathlib.Core.Path.{_≡_}
+use mathlib.Core.List.{List}
 use native.Mathlib.Omega.{arith}
-use native.Mathlib.Nat.{zero-add, suc-add}
-use lib.ListN.{length, take, drop, set, length-drop, length-set, List·getD-append}
-use lib.Seq.{getD-drop, getD-take, getD-append-add, set-append-left, drop-set-add, drop-set-lt, take-set-le, take-set-lt}
+use lib.ListN.{length, set, length-set}
 use Rattle.rules.specs.Words.{Place}
 use Rattle.rules.specs.Lists.{at}
 use Rattle.rules.specs.Ring.{turn}
 use Rattle.rules.specs.Rewrite.{swapAt}
+use Rattle.laws.proofs.TurnLaws.{turn-on, turn-set}
 use Rattle.ring.specs.Around.{around}
-use Rattle.ring.proofs.AroundLaws.{On, low, high, on}
-
--- a store past the first part of an append
-set-append-add : (xs ys : List ℕ) (i v : ℕ) → set (xs ++ ys) (length xs + i) v ≡ xs ++ set ys i v
-set-append-add [] ys i v = simp zero-add
-set-append-add (x ∷ xs) ys i v = simp suc-add (ap (λ (l : List ℕ). x ∷ l) (set-append-add xs ys i v))
+use Rattle.ring.proofs.AroundLaws.{on}
 
 -- what stands a steps after s
 pub at-turn : (s : Place) (a : ℕ) (r : List ℕ) → s < length r → a < length r → at (turn s r) a ≡ at r (around (length r) s a)
-unfolding turn
-at-turn s a r hs ha = go _ (on (length r) s a)
-  where
-    go : (x : ℕ) → On (length r) s a x → at (turn s r) a ≡ at r x
-    go x (low h e) =
-        let k : a < length (drop s r) = simp length-drop (omega arith) in
-        List·getD-append (drop s r) (take s r) 0 a k ∙ getD-drop s r a 0 ∙ ap (at r) (sym e)
-    go x (high h e) =
-        let q : a ≡ length (drop s r) + x = simp length-drop (omega arith) in
-        let k : x < s = omega arith in
-        ap (at (drop s r ++ take s r)) q ∙ getD-append-add (drop s r) (take s r) x 0 ∙ getD-take s r x 0 k
+at-turn s a r hs ha = turn-on s a (around (length r) s a) r (omega arith) ha (on (length r) s a)
 
 -- a store there
 pub set-turn : (s : Place) (a v : ℕ) (r : List ℕ) → s < length r → a < length r → turn s (set r (around (length r) s a) v) ≡ set (turn s r) a v
-unfolding turn
-set-turn s a v r hs ha = go _ (on (length r) s a)
-  where
-    go : (x : ℕ) → On (length r) s a x → turn s (set r x v) ≡ set (turn s r) a v
-    go x (low h e) =
-        let k : a < length (drop s r) = simp length-drop (omega arith) in
-        let g : s ≤ s + a = omega arith in
-        rw e (rw (drop-set-add s r a v, take-set-le s r (s + a) v g) (sym (set-append-left (drop s r) (take s r) a v k)))
-    go x (high h e) =
-        let q : a ≡ length (drop s r) + x = simp length-drop (omega arith) in
-        let k : x < s = omega arith in
-        rw (drop-set-lt s r x v k, take-set-lt s r x v k) (sym (ap (λ (m : ℕ). set (drop s r ++ take s r) m v) q ∙ set-append-add (drop s r) (take s r) x v))
+set-turn s a v r hs ha = turn-set s a (around (length r) s a) v r (omega arith) ha (on (length r) s a)
 
 -- an exchange of two places there
 pub swap-turn : (s : Place) (a b : ℕ) (r : List ℕ) → s < length r → a < length r → b < length r

@@ -4,7 +4,7 @@ use mathlib.Core.Bool.{true, false}
 use native.Mathlib.Omega.{arith}
 use borrow.Author.Count.{below-more}
 use lib.ListN.{length}
-use Rattle.laws.proofs.RingRisingLaws.{true-false, not-so}
+use Rattle.laws.proofs.ChoiceLaws.{true-false, not-so}
 use Rattle.laws.proofs.JournalWordLaws.{goodEntry, good-room, good-each, good-all}
 use borrow.Author.Needs.{needs}
 use Rattle.checks.proofs.journal_good.Statement.{statement}
@@ -41,7 +41,7 @@ returns-2 : tie.Need-returns-2 Inv-loop μ-loop
 unfolding goodEntry
 returns-2 c =
     let st = c .before .before .before .before .before .before in
-    sym (not-so _ (λ e. true-false _ (good-each (st .args .n) (st .args .journal .now) (st .args .held) e (c .before .before .before .loop .i) (c .before .before .loop-test .taken)) (sym (c .before .entry-good .ensures) ∙ c .if2 .left)))
+    sym (not-so _ (λ e. true-false (sym (good-each (st .args .n) (st .args .journal .now) (st .args .held) e (c .before .before .before .loop .i) (c .before .before .loop-test .taken)) ∙ sym (c .before .entry-good .ensures) ∙ c .if2 .left)))
 
 returns-3 : tie.Need-returns-3 Inv-loop μ-loop
 returns-3 c =

@@ -7,7 +7,8 @@ use Rattle.rules.specs.Ring.{next}
 use Rattle.rules.specs.Queue.{waiting}
 use Rattle.ring.specs.Around.{around}
 use Rattle.ring.proofs.AroundLaws.{around-0, next-around}
-use Rattle.queue.proofs.LineLaws.{length-waiting, at-waiting}
+use Rattle.laws.proofs.WaitLaws.{waiting-length}
+use Rattle.queue.proofs.LineLaws.{at-waiting}
 use Rattle.checks.proofs.MarkLaws.{Marking, marking-starts, marking-turn, marking-beyond, marking-twice, marking-done}
 use borrow.Author.Needs.{needs}
 use Rattle.checks.proofs.mark_waiting.Statement.{statement}
@@ -52,7 +53,7 @@ returns c =
     let st = c .before .before .before .before .before .before .before in
     let a = st .args in
     let q = waiting (a .queue .now) (a .head) (a .count) in
-    let l : c .before .before .before .before .loop .i < length q = omega (arith, c .before .before .before .loop-test .taken, length-waiting (a .queue .now) (a .head) (a .count) (st .pre .1 .1 .1)) in
+    let l : c .before .before .before .before .loop .i < length q = omega (arith, c .before .before .before .loop-test .taken, waiting-length (a .queue .now) (a .head) (a .count) (st .pre .1 .1 .1)) in
     marking-beyond _ q (c .before .before .before .before .loop .i) (c .before .before .before .before .loop .marks) (c .before .before .before .before .loop .inv .1 .1 .1 .1) l (omega (arith, here (c .before), c .if1 .taken))
 
 slice-read-if2 : tie.Need-slice-read-if2 Inv-loop μ-loop
@@ -66,7 +67,7 @@ returns-2 c =
     let st = c .before .before .before .before .before .before .before .before .before in
     let a = st .args in
     let q = waiting (a .queue .now) (a .head) (a .count) in
-    let l : c .before .before .before .before .before .before .loop .i < length q = omega (arith, c .before .before .before .before .before .loop-test .taken, length-waiting (a .queue .now) (a .head) (a .count) (st .pre .1 .1 .1)) in
+    let l : c .before .before .before .before .before .before .loop .i < length q = omega (arith, c .before .before .before .before .before .loop-test .taken, waiting-length (a .queue .now) (a .head) (a .count) (st .pre .1 .1 .1)) in
     let up : 0 < at (c .before .before .before .before .before .before .loop .marks) (c .before .before .before .wide .result) = omega (arith, c .if2 .taken) in
     marking-twice _ q (c .before .before .before .before .before .before .loop .i) (c .before .before .before .before .before .before .loop .marks) (c .before .before .before .before .before .before .loop .inv .1 .1 .1 .1) l (omega (arith, here (c .before .before .before), c .before .before .if1 .left)) (rw (here (c .before .before .before)) at up)
 
@@ -90,7 +91,7 @@ loop-again c =
     let n = length (a .queue .now) in
     let q = waiting (a .queue .now) (a .head) (a .count) in
     let h = c .before .before .before .before .before .before .loop-test .taken in
-    let l : lp .i < length q = omega (arith, h, length-waiting (a .queue .now) (a .head) (a .count) (st .pre .1 .1 .1)) in
+    let l : lp .i < length q = omega (arith, h, waiting-length (a .queue .now) (a .head) (a .count) (st .pre .1 .1 .1)) in
     let e = lp .inv .1 .1 .1 .0 in
     let v = here (c .before .before .before .before) in
     let down : at (lp .marks) (c .before .before .before .before .wide .result) ≡ 0 = omega (arith, c .before .if2 .left) in (
@@ -115,7 +116,7 @@ returns-3 c =
     let st = c .before .before .before .before in
     let a = st .args in
     let q = waiting (a .queue .now) (a .head) (a .count) in
-    let l : length q ≤ c .before .loop .i = omega (arith, c .loop-test .left, length-waiting (a .queue .now) (a .head) (a .count) (st .pre .1 .1 .1)) in
+    let l : length q ≤ c .before .loop .i = omega (arith, c .loop-test .left, waiting-length (a .queue .now) (a .head) (a .count) (st .pre .1 .1 .1)) in
     marking-done _ q (c .before .loop .i) (c .before .loop .marks) (c .before .loop .inv .1 .1 .1 .1) l
 
 pub mark-waiting-spec : {M : Type 1} → statement M

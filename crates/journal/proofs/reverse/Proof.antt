@@ -5,9 +5,9 @@ use lib.ListN.{length, take}
 use mathlib.Core.Path.{_≡_, _∙_}
 use native.Mathlib.Omega.{arith}
 use Rattle.rules.specs.Journal.{reversal, wordsOf, trackOf, carryOut}
-use Rattle.laws.proofs.JournalWordLaws.{in-reversal}
-use Rattle.laws.proofs.TrackStepLaws.{reversing-short, reversing-long}
-use Rattle.rewrite.proofs.ReverseLaws.{reverse-short}
+use Rattle.laws.proofs.RangeLaws.{in-reversal}
+use Rattle.laws.proofs.RewriteLaws.{reverseAt-short}
+use Rattle.laws.proofs.StretchLaws.{reversing-short, reversing-long}
 use Rattle.journal.proofs.MoveLaws.{moved-one, moved-none}
 use borrow.Author.Needs.{needs}
 use Rattle.journal.proofs.reverse.Statement.{statement}
@@ -36,7 +36,7 @@ returns c =
     let m = c .before .before .before .before .before .reverse-tour in
     let t = m .ensures .0 in
     let took : _≡_ {A = Stretch} (record { start = m .result .start; len = m .result .len }) (stretch (length (a .round .now)) (a .start .0) (a .end .0)) = cc (t .is, c .before .before .before .before .before .before .before .wide .ensures, c .before .before .before .before .before .before .wide2 .ensures) in
-    let r-is = m .ensures .1 .is ∙ reverse-short (m .result .start) (m .result .len) (a .round .now) (t .below) (c .if1 .taken) in
+    let r-is = m .ensures .1 .is ∙ reverseAt-short (m .result .start) (m .result .len) (a .round .now) (omega (arith, t .below)) (c .if1 .taken) in
     rw (reversing-short (a .start .0) (a .end .0) (trackOf (a .round .now) (a .journal .now) (a .held)) (m .result .start) (m .result .len) took (c .if1 .taken))
     (moved-none (a .round .now) (a .journal .now) (a .held) (m .last .0) (m .last .1 .0) (st .pre .1 .1 .1) r-is (m .ensures .1 .tied))
 

@@ -5,7 +5,7 @@ use lib.ListN.{length}
 use Rattle.rules.specs.Journal.{trackOf, rollback as rollbackOf}
 use Rattle.rules.specs.Contracts.{Tied}
 use Rattle.laws.proofs.JournalWordLaws.{good-room, good-each, good-range, good-fewer}
-use Rattle.laws.proofs.TrackStepLaws.{rollback-done}
+use Rattle.laws.proofs.JournalLaws.{entriesOf-length, rollback-done}
 use Rattle.journal.proofs.MoveLaws.{back-turn}
 use borrow.Author.Needs.{needs}
 use Rattle.journal.proofs.rollback.Statement.{statement}
@@ -85,6 +85,7 @@ same-length-3 : tie.Need-same-length-3 Inv-loop μ-loop
 same-length-3 c = search needs
 
 returns : tie.Need-returns Inv-loop μ-loop
+unfolding trackOf
 returns c =
     let st = c .before .before .before .before .before .before in
     let a = st .args in
@@ -92,7 +93,7 @@ returns c =
     let none : lp .left ≡ 0 = omega (arith, c .loop-test .left) in
     let q : a .mark + lp .left ≡ a .mark = omega arith in
     record {
-      is = sym (rollback-done (lp .round) (a .journal .now) (a .mark) (a .mark) (omega arith)) ∙ (rw q at (lp .inv .1 .1 .1 .1));
+      is = sym (rollback-done (a .mark) (trackOf (lp .round) (a .journal .now) (a .mark)) (omega (arith, entriesOf-length (a .journal .now) (a .mark)))) ∙ (rw q at (lp .inv .1 .1 .1 .1));
       tied = lp .inv .0;
       good = rw (lp .inv .1 .0) (good-fewer (length (a .round .now)) (a .journal .now) (a .held) (a .mark) (st .pre .1 .1 .1) (st .pre .1 .1 .0));
       to-mark = refl;

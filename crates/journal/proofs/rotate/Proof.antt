@@ -4,7 +4,7 @@ use lib.ListN.{take}
 use mathlib.Core.Path.{_≡_}
 use native.Mathlib.Omega.{arith}
 use Rattle.rules.specs.Journal.{rotation, wordsOf, carryOut}
-use Rattle.laws.proofs.JournalWordLaws.{in-rotation}
+use Rattle.laws.proofs.RangeLaws.{in-rotation}
 use Rattle.journal.proofs.MoveLaws.{moved-one}
 use borrow.Author.Needs.{needs}
 use Rattle.journal.proofs.rotate.Statement.{statement}

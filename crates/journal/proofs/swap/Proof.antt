@@ -1,5 +1,5 @@
 use Rattle.rules.specs.Journal.{swap, wordsOf, carryOut}
-use Rattle.laws.proofs.JournalWordLaws.{in-swap}
+use Rattle.laws.proofs.RangeLaws.{in-swap}
 use Rattle.journal.proofs.MoveLaws.{moved-one}
 use borrow.Author.Needs.{needs}
 use Rattle.journal.proofs.swap.Statement.{statement}

@@ -4,7 +4,8 @@ use native.Mathlib.Omega.{arith}
 use lib.ListN.{length}
 use Rattle.rules.specs.Lists.{at}
 use Rattle.rules.specs.Journal.{takeBack}
-use Rattle.laws.proofs.JournalWordLaws.{entry-reversal, entry-rotation, entry-swap, reversal-in, rotation-in, swap-in}
+use Rattle.laws.proofs.JournalWordLaws.{entry-reversal, entry-rotation, entry-swap}
+use Rattle.laws.proofs.RangeLaws.{reversal-in, rotation-in, swap-in}
 use borrow.Author.Needs.{needs}
 use Rattle.journal.proofs.take_back.Statement.{statement}
 use Rattle.journal.proofs.take_back.Tie as tie

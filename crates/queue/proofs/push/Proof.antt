@@ -2,7 +2,7 @@ use Prim.Native.Nat.{_<_}
 use mathlib.Core.Path.{_≡_, refl, sym}
 use native.Mathlib.Omega.{arith}
 use Rattle.rules.specs.Lists.{at}
-use Rattle.laws.proofs.RingWaitLaws.{push-old}
+use Rattle.laws.proofs.QueueLaws.{push-old}
 use Rattle.ring.specs.Around.{around}
 use Rattle.queue.proofs.LineLaws.{line-pushed, line-gone, line-waits, length-flags-are}
 use borrow.Author.Needs.{needs}

@@ -7,7 +7,7 @@ use Rattle.rules.specs.Lists.{at}
 use Rattle.rules.specs.Ring.{next, turn}
 use Rattle.ring.specs.Around.{around}
 use Rattle.ring.proofs.AroundLaws.{around-0, next-around}
-use Rattle.laws.proofs.TurnBackLaws.{length-turn}
+use Rattle.laws.proofs.TurnLaws.{turn-length}
 use Rattle.ring.proofs.TurnAtLaws.{at-turn}
 use Rattle.rewrite.proofs.WriteLaws.{gather-turn}
 use borrow.Author.Needs.{needs}
@@ -64,7 +64,7 @@ loop-again c =
           c .next .ensures .below,
           (
             e ∙ ap (next (length r)) (lp .inv .1 .1 .1 .0) ∙ next-around (length r) (a .start) (lp .k) (st .pre .0) h,
-            rw (v, lp .inv .1 .1 .1 .1) (gather-turn (lp .k) (turn (a .start) r) (a .scratch .now) (omega (arith, length-turn (a .start) r)) (omega (arith, st .pre .1 .1))),
+            rw (v, lp .inv .1 .1 .1 .1) (gather-turn (lp .k) (turn (a .start) r) (a .scratch .now) (omega (arith, turn-length (a .start) r)) (omega (arith, st .pre .1 .1))),
           ),
         ),
       ),

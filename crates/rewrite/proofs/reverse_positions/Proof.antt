@@ -1,10 +1,11 @@
 use Prim.Native.Nat.{_<_}
 use mathlib.Core.Path.{_≡_, refl, sym, ap, _∙_}
+use native.Mathlib.Omega.{arith}
 use lib.ListN.{length}
 use Rattle.rules.specs.Rewrite.{reverseAt}
 use Rattle.rules.specs.Contracts.{Tied}
-use Rattle.laws.proofs.RingTiedLaws.{length-swap}
-use Rattle.rewrite.proofs.ReverseLaws.{exchanges, exchanges-starts, exchanges-turn, exchanges-done, reverse-short}
+use Rattle.laws.proofs.RewriteLaws.{reverseAt-short, swapAt-length}
+use Rattle.rewrite.proofs.ReverseLaws.{exchanges, exchanges-starts, exchanges-turn, exchanges-done}
 use borrow.Author.Needs.{needs}
 use Rattle.rewrite.proofs.reverse_positions.Statement.{statement}
 use Rattle.rewrite.proofs.reverse_positions.Tie as tie
@@ -20,7 +21,7 @@ abbrev μ-loop : tie.MeasureT-loop
 returns : tie.Need-returns Inv-loop μ-loop
 returns c =
     let st = c .before .before .before in
-    record { is = sym (reverse-short (st .args .start) (st .args .len) (st .args .round .now) (st .pre .1 .0) (c .if1 .taken)); tied = st .pre .0 }
+    record { is = sym (reverseAt-short (st .args .start) (st .args .len) (st .args .round .now) (omega (arith, st .pre .1 .0)) (c .if1 .taken)); tied = st .pre .0 }
 
 add-wrap : tie.Need-add-wrap Inv-loop μ-loop
 add-wrap c = search needs
@@ -58,7 +59,7 @@ loop-again c =
     let sw = c .before .before .before .before .before .before .swap-raw in
     let lp = c .before .before .before .before .before .before .before .before .before .before .loop in
     let n = length (c .before .before .before .before .before .before .before .before .before .before .before .before .before .before .before .args .round .now) in
-    let e : length (sw .last .0) ≡ n = ap length (sw .ensures .is) ∙ length-swap (lp .i) (lp .j) (lp .round) ∙ lp .inv .1 .0 in (
+    let e : length (sw .last .0) ≡ n = ap length (sw .ensures .is) ∙ swapAt-length (lp .i) (lp .j) (lp .round) ∙ lp .inv .1 .0 in (
       sw .ensures .tied,
       (
         e,

@@ -4,7 +4,7 @@ use native.Mathlib.Omega.{arith}
 use lib.ListN.{length, take, drop}
 use lib.Seq.{length-take-le}
 use Rattle.rules.specs.Ring.{turn}
-use Rattle.laws.proofs.TurnBackLaws.{length-turn}
+use Rattle.laws.proofs.TurnLaws.{turn-length}
 use Rattle.rewrite.proofs.RotateLaws.{put-ok, parts-of, rotate-done}
 use borrow.Author.Needs.{needs}
 use Rattle.rewrite.proofs.rotate_segments.Statement.{statement}
@@ -21,7 +21,7 @@ parts : (c : tie.After-gather) →
 parts c =
     let st = c .before .before .before .before .before .before in
     parts-of (st .args .a) (st .args .b) (st .args .c) (turn (st .args .start) (st .args .round .now)) (st .args .scratch .now) (c .gather .last .1 .0)
-    (omega (arith, st .pre .1 .1 .0, length-turn (st .args .start) (st .args .round .now))) (c .gather .ensures)
+    (omega (arith, st .pre .1 .1 .0, turn-length (st .args .start) (st .args .round .now))) (c .gather .ensures)
 
 add-ab : tie.Need-add-ab
 add-ab c = search needs
@@ -79,7 +79,7 @@ slice-aggregate-put c =
     let st = c .before .before .before .before .before .before .before .before .before .before .before .before .before .before .before .before .before .before .before .before .before .before .before .before .before .before .before .before .before in
     let a = st .args in
     let q = parts (c .before .before .before .before .before .before .before .before .before .before .before .before .before .before .before .before .before .before .before .before .before .before .before) in
-    sym (ap length (q .2) ∙ length-take-le (a .a) (turn (a .start) (a .round .now)) (omega (arith, length-turn (a .start) (a .round .now), st .pre .1 .1 .0)))
+    sym (ap length (q .2) ∙ length-take-le (a .a) (turn (a .start) (a .round .now)) (omega (arith, turn-length (a .start) (a .round .now), st .pre .1 .1 .0)))
 
 put-requires-3 : tie.Need-put-requires-3
 put-requires-3 c κs =

@@ -3,7 +3,7 @@ use mathlib.Core.Path.{sym, _∙_}
 use native.Mathlib.Omega.{arith}
 use lib.ListN.{length}
 use Rattle.rules.specs.Rewrite.{lenOf}
-use Rattle.laws.proofs.RingPlaceLaws.{stretch-others, stretch-these}
+use Rattle.laws.proofs.StretchLaws.{stretch-others, stretch-these}
 use borrow.Author.Needs.{needs}
 use Rattle.rewrite.proofs.stretch_of.Statement.{statement}
 use Rattle.rewrite.proofs.stretch_of.Tie as tie

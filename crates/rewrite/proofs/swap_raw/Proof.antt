@@ -3,7 +3,7 @@ use Rattle.rules.specs.Contracts.{Tied}
 use native.Mathlib.Omega.{arith}
 use lib.ListN.{length-set}
 use Rattle.rules.specs.Rewrite.{swapAt}
-use Rattle.laws.proofs.RingTiedLaws.{tied-swap}
+use Rattle.laws.proofs.TiedLaws.{tied-swap}
 use borrow.Author.Needs.{needs}
 use Rattle.rewrite.proofs.swap_raw.Statement.{statement}
 use Rattle.rewrite.proofs.swap_raw.Tie as tie

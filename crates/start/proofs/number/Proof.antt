@@ -1,7 +1,7 @@
 use mathlib.Core.Path.{sym}
 use native.Mathlib.Omega.{arith}
 use Rattle.laws.proofs.CellLaws.{cells-few}
-use Rattle.laws.proofs.StartLaws.{start-none, start-many, start-odd-matrix, start-odd-round, start-fits}
+use Rattle.laws.proofs.StartNumberLaws.{start-none, start-many, start-odd-matrix, start-odd-round, start-fits}
 use Rattle.start.proofs.number.Statement.{statement}
 use Rattle.start.proofs.number.Tie as tie
 

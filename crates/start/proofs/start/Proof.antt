@@ -1,7 +1,7 @@
 use mathlib.Core.Path.{refl}
 use native.Mathlib.Omega.{arith}
 use borrow.Author.Needs.{needs}
-use Rattle.laws.proofs.StartLaws.{start-zero}
+use Rattle.laws.proofs.StartNumberLaws.{start-zero}
 use Rattle.start.proofs.Walks.{blank}
 use Rattle.start.proofs.start.Statement.{statement}
 use Rattle.start.proofs.start.Tie as tie

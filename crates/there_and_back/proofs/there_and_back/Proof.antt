@@ -3,9 +3,9 @@ use native.Mathlib.Omega.{arith}
 use lib.ListN.{length}
 use Rattle.rules.specs.Ring.{placesOf}
 use Rattle.rules.specs.Journal.{Track, trackOf}
-use Rattle.laws.proofs.RingTiedLaws.{tied-places}
-use Rattle.laws.proofs.TrackStepLaws.{length-entries}
-use Rattle.laws.proofs.ReverseBackLaws.{reversing-back}
+use Rattle.laws.proofs.TiedLaws.{tied-places}
+use Rattle.laws.proofs.JournalLaws.{entriesOf-length}
+use Rattle.laws.proofs.SinceLaws.{reversing-back}
 use borrow.Author.Needs.{needs}
 use Rattle.there_and_back.proofs.there_and_back.Statement.{statement}
 use Rattle.there_and_back.proofs.there_and_back.Tie as tie
@@ -40,11 +40,11 @@ returns c =
     let u = c .before .before .before .before .before .before .before .before .before .before .before .before .before .before .before .before .before .reverse in
     let b = c .before .before .before .before .before .before .rollback in
     let t = trackOf (a .round .now) (a .journal .now) (a .held) in
-    let l : length (t .journal) ≡ a .held = length-entries (a .journal .now) (a .held) in
+    let l : length (t .journal) ≡ a .held = entriesOf-length (a .journal .now) (a .held) in
     let back = reversing-back (a .start .0) (a .end .0) t (st .pre .1 .0) (st .pre .1 .1 .0) in
     let e : trackOf (b .last .0) (u .last .1 .1 .0) (b .result) ≡ t = cc (b .ensures .is, u .ensures .is, l, back) in
     let r : b .last .0 ≡ a .round .now = ap (λ (x : Track). x .round) e in
-    (r, (tied-places _ _ (b .ensures .tied) ∙ ap placesOf r ∙ sym (tied-places _ _ (st .pre .0)), b .ensures .to-mark))
+    (r, (tied-places (b .ensures .tied) ∙ ap placesOf r ∙ sym (tied-places (st .pre .0)), b .ensures .to-mark))
 
 pub there-and-back-spec : {M : Type 1} → statement M
 there-and-back-spec =

@@ -1,6 +1,6 @@
 use mathlib.Core.Path.{sym, ap, _∙_}
 use Rattle.rules.specs.Lists.{at}
-use Rattle.laws.proofs.RingTiedLaws.{place-tied}
+use Rattle.laws.proofs.TiedLaws.{place-tied}
 use borrow.Author.Needs.{needs}
 use Rattle.ring.proofs.stops.place_of.Statement.{statement}
 use Rattle.ring.proofs.stops.place_of.Tie as tie
@@ -21,7 +21,7 @@ returns c =
     let t = st .pre .0 in
     let h = st .pre .1 in
     record {
-      is = ap (at (a .places .now)) (c .before .wide .ensures) ∙ sym (place-tied (a .round .now) (a .places .now) t (a .v .0) h);
+      is = ap (at (a .places .now)) (c .before .wide .ensures) ∙ sym (place-tied t (a .v .0) h);
       below = rw (c .before .wide .ensures) (t .place (a .v .0) h);
     }
 

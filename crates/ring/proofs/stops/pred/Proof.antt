@@ -1,10 +1,10 @@
-use mathlib.Core.Path.{_≡_}
+use mathlib.Core.Path.{_∙_, _≡_, ap, sym}
 use native.Mathlib.Omega.{arith}
 use lib.ListN.{length}
 use Prim.Native.Nat.{_<_}
 use Rattle.rules.specs.Lists.{at}
 use Rattle.rules.specs.Ring.{prev}
-use Rattle.laws.proofs.RingTiedLaws.{pred-tied}
+use Rattle.laws.proofs.TiedLaws.{pred-tied}
 use borrow.Author.Needs.{needs}
 use Rattle.ring.proofs.stops.pred.Statement.{statement}
 use Rattle.ring.proofs.stops.pred.Tie as tie
@@ -39,7 +39,7 @@ returns c =
     let a = st .args in
     let e : c .before .prev .result ≡ prev (length (a .round .now)) (at (a .places .now) (a .v .0)) = cc (c .before .prev .ensures .is, c .before .before .wide2 .ensures, c .before .before .before .before .wide .ensures) in
     record {
-      is = pred-tied (a .round .now) (a .places .now) (st .pre .0) (a .v .0) (c .before .prev .result) (st .pre .1) e;
+      is = ap (at (a .round .now)) e ∙ sym (pred-tied (st .pre .0) (a .v .0) (st .pre .1));
       below = st .pre .0 .stop (c .before .prev .result) (c .before .prev .ensures .below);
     }
 

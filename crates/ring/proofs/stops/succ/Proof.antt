@@ -1,10 +1,10 @@
-use mathlib.Core.Path.{_≡_}
+use mathlib.Core.Path.{_∙_, _≡_, ap, sym}
 use native.Mathlib.Omega.{arith}
 use lib.ListN.{length}
 use Prim.Native.Nat.{_<_}
 use Rattle.rules.specs.Lists.{at}
 use Rattle.rules.specs.Ring.{next}
-use Rattle.laws.proofs.RingTiedLaws.{succ-tied}
+use Rattle.laws.proofs.TiedLaws.{succ-tied}
 use borrow.Author.Needs.{needs}
 use Rattle.ring.proofs.stops.succ.Statement.{statement}
 use Rattle.ring.proofs.stops.succ.Tie as tie
@@ -39,7 +39,7 @@ returns c =
     let a = st .args in
     let e : c .before .next .result ≡ next (length (a .round .now)) (at (a .places .now) (a .v .0)) = cc (c .before .next .ensures .is, c .before .before .wide2 .ensures, c .before .before .before .before .wide .ensures) in
     record {
-      is = succ-tied (a .round .now) (a .places .now) (st .pre .0) (a .v .0) (c .before .next .result) (st .pre .1) e;
+      is = ap (at (a .round .now)) e ∙ sym (succ-tied (st .pre .0) (a .v .0) (st .pre .1));
       below = st .pre .0 .stop (c .before .next .result) (c .before .next .ensures .below);
     }
 
