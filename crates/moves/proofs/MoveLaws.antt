@@ -1,0 +1,48 @@
+-- 01, 6: the two ways of a flip, and the moves by the numbers of their cases.
+use Prim.Native.Nat.{ℕ, zero, suc}
+use mathlib.Core.Path.{_≡_, refl}
+use mathlib.Core.Logic.{_≢_}
+use mathlib.Core.Bool.{Bool, true, false}
+use mathlib.Core.List.{List}
+use lib.Dec.{eqb}
+use Rattle.rules.specs.Words.{Stop, Place, Round}
+use Rattle.rules.specs.Ring.{place, succ, pred}
+use Rattle.rules.specs.Journal.{Track, Entry, reversing}
+use Rattle.rules.specs.Moves.{inner, flip, orMove, seq3}
+use Rattle.moves.specs.Moves.{caseOf}
+
+module _ (r : Round) (t1 t2 t3 : Stop) (s e : Place) where
+  pub flip-ahead : eqb (succ r t1) t2 ≡ true → s ≡ place r t2 → e ≡ place r (pred r t3)
+      → (j : List Entry) → reversing s e (record { round = r; journal = j }) ≡ flip t1 t2 t3 (record { round = r; journal = j })
+  unfolding flip
+  flip-ahead b es ee j = rw (es, ee, b)
+
+  pub flip-back : eqb (succ r t1) t2 ≡ false → s ≡ place r t1 → e ≡ place r t3
+      → (j : List Entry) → reversing s e (record { round = r; journal = j }) ≡ flip t1 t2 t3 (record { round = r; journal = j })
+  unfolding flip
+  flip-back b es ee j = rw (es, ee, b)
+
+inner-is : (c : ℕ) → c ≢ 1 → c ≢ 2 → c ≢ 3 → caseOf c ≡ inner
+unfolding caseOf
+inner-is zero a b d = refl
+inner-is (suc zero) a b d = absurd (a refl)
+inner-is (suc (suc zero)) a b d = absurd (b refl)
+inner-is (suc (suc (suc zero))) a b d = absurd (d refl)
+inner-is (suc (suc (suc (suc c)))) a b d = refl
+
+module _ (fwd : Bool) (c : ℕ) (t1 t2 t3 t4 t5 t6 : Stop) (t : Track) where
+  pub seq-two : c ≡ 1 → flip t1 t2 t3 t ≡ seq3 fwd (caseOf c) t1 t2 t3 t4 t5 t6 t
+  unfolding caseOf seq3
+  seq-two e = rw e
+
+  pub seq-flips : c ≡ 2 → flip t1 t4 t5 (flip t1 t2 t3 t) ≡ seq3 fwd (caseOf c) t1 t2 t3 t4 t5 t6 t
+  unfolding caseOf seq3
+  seq-flips e = rw e
+
+  pub seq-segment : c ≡ 3 → orMove fwd t1 t2 t5 t6 t3 t4 t ≡ seq3 fwd (caseOf c) t1 t2 t3 t4 t5 t6 t
+  unfolding caseOf seq3
+  seq-segment e = rw e
+
+  pub seq-inner : c ≢ 1 → c ≢ 2 → c ≢ 3 → flip t2 t5 t4 (flip t1 t2 t5 t) ≡ seq3 fwd (caseOf c) t1 t2 t3 t4 t5 t6 t
+  unfolding seq3
+  seq-inner a b d = rw (inner-is c a b d)
