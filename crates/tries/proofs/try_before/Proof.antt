@@ -1,0 +1,45 @@
+use native.Mathlib.Omega.{arith}
+use lib.ListN.{length}
+use Rattle.rules.specs.Plan.{legIn}
+use Rattle.tries.proofs.PickLaws.{chosen-is}
+use Rattle.tries.proofs.TryLaws.{before-gains, before-fails}
+use borrow.Author.Needs.{needs}
+use Rattle.tries.proofs.try_before.Statement.{statement}
+use Rattle.tries.proofs.try_before.Tie as tie
+
+between-dir-requires : tie.Need-between-dir-requires
+between-dir-requires c κs = search needs
+
+beside-requires : tie.Need-beside-requires
+beside-requires c κs = search needs
+
+dist-requires : tie.Need-dist-requires
+dist-requires c κs = search needs
+
+add-open : tie.Need-add-open
+add-open c = search needs
+
+closed-requires : tie.Need-closed-requires
+closed-requires c κs = search needs
+
+returns : tie.Need-returns
+returns c = let a = (c .before .before .before .before .before .before .before .before .args) in let p = (c .before .before .before .before .before .before .before .before .pre) .1 .0 in record { is = before-gains (legIn (length (a .round .now)) (a .matrix .now)) (a .fwd) (a .round .now) (a .t1 .0) (a .t2 .0) (a .t3 .0) (a .t4 .0) (a .t5 .0) (a .g3) ((c .before .before .before .before .between-dir) .result) ((c .before .before .before .beside) .result .0) ((c .before .before .dist) .result) ((c .before .closed) .result) ((c .before .before .before .before .between-dir) .ensures) ((c .before .before .before .beside) .ensures .is) ((c .before .before .dist) .ensures .is) ((c .before .closed) .ensures) ((c .if1) .taken); low3 = p .low3; low4 = p .low4; low5 = p .low5; low6 = (c .before .before .before .beside) .ensures .below }
+
+no-move-requires : tie.Need-no-move-requires
+no-move-requires c κs = search needs
+
+returns-2 : tie.Need-returns-2
+returns-2 c = let a = (c .before .before .before .before .before .before .before .before .before .args) in chosen-is (before-fails (legIn (length (a .round .now)) (a .matrix .now)) (a .fwd) (a .round .now) (a .t1 .0) (a .t2 .0) (a .t3 .0) (a .t4 .0) (a .t5 .0) (a .g3) ((c .before .before .before .before .before .between-dir) .result) ((c .before .before .before .before .beside) .result .0) ((c .before .before .before .dist) .result) ((c .before .before .closed) .result) ((c .before .before .before .before .before .between-dir) .ensures) ((c .before .before .before .before .beside) .ensures .is) ((c .before .before .before .dist) .ensures .is) ((c .before .before .closed) .ensures) ((c .before .if1) .left)) ((c .no-move) .ensures (length (a .round .now)) (omega (arith, (c .before .before .before .before .before .before .before .before .before .pre) .1 .0 .low1)))
+
+pub try-before-spec : {M : Type 1} → statement M
+try-before-spec =
+    tie.close
+    (tie.spec
+    between-dir-requires
+    beside-requires
+    dist-requires
+    add-open
+    closed-requires
+    returns
+    no-move-requires
+    returns-2)
