@@ -1,4 +1,3 @@
 pub mod CutLaws
-pub mod EntryLaws
 pub mod MadeLaws
 pub mod MoveLaws

@@ -1,26 +1,12 @@
--- 01, 6: the two ways of a flip, and the moves by the numbers of their cases.
+-- 01, 6: the moves by the numbers of their cases.
 use Prim.Native.Nat.{ℕ, zero, suc}
 use mathlib.Core.Path.{_≡_, refl}
 use mathlib.Core.Logic.{_≢_}
-use mathlib.Core.Bool.{Bool, true, false}
-use mathlib.Core.List.{List}
-use lib.Dec.{eqb}
-use Rattle.rules.specs.Words.{Stop, Place, Round}
-use Rattle.rules.specs.Ring.{place, succ, pred}
-use Rattle.rules.specs.Journal.{Track, Entry, reversing}
+use mathlib.Core.Bool.{Bool}
+use Rattle.rules.specs.Words.{Stop}
+use Rattle.rules.specs.Journal.{Track}
 use Rattle.rules.specs.Moves.{inner, flip, orMove, seq3}
 use Rattle.moves.specs.Moves.{caseOf}
-
-module _ (r : Round) (t1 t2 t3 : Stop) (s e : Place) where
-  pub flip-ahead : eqb (succ r t1) t2 ≡ true → s ≡ place r t2 → e ≡ place r (pred r t3)
-      → (j : List Entry) → reversing s e (record { round = r; journal = j }) ≡ flip t1 t2 t3 (record { round = r; journal = j })
-  unfolding flip
-  flip-ahead b es ee j = rw (es, ee, b)
-
-  pub flip-back : eqb (succ r t1) t2 ≡ false → s ≡ place r t1 → e ≡ place r t3
-      → (j : List Entry) → reversing s e (record { round = r; journal = j }) ≡ flip t1 t2 t3 (record { round = r; journal = j })
-  unfolding flip
-  flip-back b es ee j = rw (es, ee, b)
 
 inner-is : (c : ℕ) → c ≢ 1 → c ≢ 2 → c ≢ 3 → caseOf c ≡ inner
 unfolding caseOf

@@ -4,30 +4,23 @@ use mathlib.Core.Path.{_≡_, refl, ap, _∙_}
 use mathlib.Core.Bool.{Bool, true, false, not, _||_}
 use mathlib.Core.List.{List, _++_, append-assoc}
 use native.Mathlib.Omega.{arith}
-use native.Mathlib.Nat.{mul-le-mul-right}
-use borrow.Author.Tests.{lt-ltb, le-ltb}
-use lib.Dec.{ltb, eqb}
-use lib.ListN.{length, drop, length-take, length-drop}
+use borrow.Author.Tests.{lt-ltb, le-ltb, leb-true, leb-false}
+use lib.Dec.{ltb, leb, eqb}
+use lib.ListN.{length, drop}
 use Rattle.rules.specs.Words.{Stop, Time, Legs, Round}
 use Rattle.rules.specs.Lists.{at, keepWhile}
 use Rattle.rules.specs.Ring.{succ, pred, ahead, beside}
-use Rattle.rules.specs.Plan.{listIn}
 use Rattle.rules.specs.Improve.{Trial, free3, free5, twos, sixths, trials}
-use Rattle.rules.specs.Contracts.{Listed}
 use Rattle.tries.specs.Picks.{Pick, pick, none, firstOf, triedTwo, triedFifth, Chosen}
 use Rattle.tries.proofs.PickLaws.{part-gains, part-fails}
 use Rattle.tries.proofs.TryLaws.{two-tried, fifth-tried}
-use Rattle.scans.proofs.LeftLaws.{scan-done, scan-stop, scan-skip, scan-try, fifths, sides, thirds, thirds-all, sides-turn, sides-done}
+use Rattle.laws.proofs.LeftLaws.{scan-done, scan-stop, scan-skip, scan-try, fifths, sides, thirds, thirds-all, sides-turn, sides-done}
 
 -- what the loops keep: no move is chosen yet, and what is left finds what the whole finds
 pub record Left (n : ℕ) (left whole : Pick) (i most case : ℕ) (gain : Time) (t3 t4 t5 t6 : Stop) : Type 0 where
   pub yet : Chosen n none case gain t3 t4 t5 t6
   pub within : i ≤ most
   pub finds : left ≡ whole
-
-pub length-list : (near : List Stop) (k n : ℕ) (v : Stop) → Listed near k n → v < n → length (listIn k near v) ≡ k
-unfolding listIn
-length-list near k n v l h = simp (length-take, length-drop) (omega (arith, l .cells, mul-le-mul-right k h))
 
 is-true : (b x : Bool) → b ≡ x → b ≡ true → not x ≡ false
 is-true b true e f = refl
@@ -64,16 +57,16 @@ module _ (d : Legs) (list : Stop → List Stop) (fwd : Bool) (r : Round) (t1 t2 
     leg23 : d23 ≡ d t2 (at (list t2) i)
     leg23 = cc
 
-    pub stop3 : g ≤ d23 → found3 g i ≡ none
+    pub stop3 : leb g d23 ≡ true → found3 g i ≡ none
     unfolding found3 thirds firstOf
     stop3 h =
         let e : d23 ≡ d t2 (at (list t2) i) = leg23 in
-        let k : g ≤ d t2 (at (list t2) i) = omega arith in
+        let k : g ≤ d t2 (at (list t2) i) = omega (arith, leb-true g d23 h) in
         ap (firstOf d t1) (scan-stop _ (free3 fwd r t1 t2) (λ t. ltb (d t2 t) g) (list t2) i hi (le-ltb _ _ k))
 
-    module _ (lt : d23 < g) (b : Bool) (next : Stop) (en : next ≡ ahead fwd r t2) (eb : b ≡ eqb t3 t1 || eqb t3 next) where
+    module _ (on : leb g d23 ≡ false) (b : Bool) (next : Stop) (en : next ≡ ahead fwd r t2) (eb : b ≡ eqb t3 t1 || eqb t3 next) where
       on3 : ltb (d t2 (at (list t2) i)) g ≡ true
-      on3 = let e : d23 ≡ d t2 (at (list t2) i) = leg23 in let k : d t2 (at (list t2) i) < g = omega arith in lt-ltb _ _ k
+      on3 = let e : d23 ≡ d t2 (at (list t2) i) = leg23 in let k : d t2 (at (list t2) i) < g = omega (arith, leb-false g d23 on) in lt-ltb _ _ k
 
       test3 : b ≡ eqb (at (list t2) i) t1 || eqb (at (list t2) i) (ahead fwd r t2)
       test3 = cc
@@ -126,16 +119,16 @@ module _ (d : Legs) (list : Stop → List Stop) (fwd : Bool) (r : Round) (t1 t2 
       leg45 : d45 ≡ d t4 (at (list t4) j)
       leg45 = cc
 
-      pub stop5 : g2 ≤ d45 → found5 after t3 t4 g2 j g1 s g i ≡ found4 t3 g1 s g i
+      pub stop5 : leb g2 d45 ≡ true → found5 after t3 t4 g2 j g1 s g i ≡ found4 t3 g1 s g i
       unfolding found5 found4 fifths
       stop5 h =
           let e : d45 ≡ d t4 (at (list t4) j) = leg45 in
-          let k : g2 ≤ d t4 (at (list t4) j) = omega arith in
+          let k : g2 ≤ d t4 (at (list t4) j) = omega (arith, leb-true g2 d45 h) in
           rw (scan-stop (λ t. sixths d d list keepWhile fwd r t1 t2 after t3 t4 t (g2 - d t4 t)) (free5 r t1 t4) (λ t. ltb (d t4 t) g2) (list t4) j hj (le-ltb _ _ k))
 
-      module _ (lt : d45 < g2) (b : Bool) (next prev : Stop) (en : next ≡ succ r t4) (ep : prev ≡ pred r t4) (eb : b ≡ eqb t5 t1 || (eqb t5 next || eqb t5 prev)) where
+      module _ (on : leb g2 d45 ≡ false) (b : Bool) (next prev : Stop) (en : next ≡ succ r t4) (ep : prev ≡ pred r t4) (eb : b ≡ eqb t5 t1 || (eqb t5 next || eqb t5 prev)) where
         on5 : ltb (d t4 (at (list t4) j)) g2 ≡ true
-        on5 = let e : d45 ≡ d t4 (at (list t4) j) = leg45 in let k : d t4 (at (list t4) j) < g2 = omega arith in lt-ltb _ _ k
+        on5 = let e : d45 ≡ d t4 (at (list t4) j) = leg45 in let k : d t4 (at (list t4) j) < g2 = omega (arith, leb-false g2 d45 on) in lt-ltb _ _ k
 
         test5 : b ≡ eqb (at (list t4) j) t1 || (eqb (at (list t4) j) (succ r t4) || eqb (at (list t4) j) (pred r t4))
         test5 = cc

@@ -1,2 +1,1 @@
 pub mod FindLaws
-pub mod LeftLaws

@@ -43,10 +43,12 @@ pub fn find_move(
         let t3 = listed(near, k, n, t2, i);
         let d23 = dist(matrix, n, t2, t3);
         i = i + 1;
-        if d12 <= d23 {
+        let t3_over = d12 <= d23;
+        let t3_barred = either(t3, t1, t2_next);
+        if t3_over {
             break 'thirds;
         }
-        if either(t3, t1, t2_next) {
+        if t3_barred {
             continue 'thirds;
         }
         let g1 = d12 - d23;
@@ -67,10 +69,12 @@ pub fn find_move(
                 let t5 = listed(near, k, n, t4, j);
                 let d45 = dist(matrix, n, t4, t5);
                 j = j + 1;
-                if g2 <= d45 {
+                let t5_over = g2 <= d45;
+                let t5_barred = any_of(t5, t1, t4_succ, t4_pred);
+                if t5_over {
                     break 'fifths;
                 }
-                if any_of(t5, t1, t4_succ, t4_pred) {
+                if t5_barred {
                     continue 'fifths;
                 }
                 let g3 = g2 - d45;

@@ -1,31 +1,34 @@
+use mathlib.Core.Bool.{true, false}
+use borrow.Author.Tests.{leb-false}
+use lib.Dec.{leb, eqb}
 use Prim.Native.Nat.{_+_, _-_, _<_, _≤_}
 use mathlib.Core.Path.{_≡_, sym, _∙_}
 use mathlib.Core.Logic.{⊎-elim}
 use native.Mathlib.Omega.{arith}
-use lib.Dec.{eqb}
 use lib.ListN.{length}
 use Rattle.rules.specs.Plan.{legIn, listIn}
+use Rattle.laws.proofs.EntryLaws.{length-list}
 use Rattle.tries.proofs.PickLaws.{chosen-is}
 use Rattle.scans.specs.Scans.{foundIn}
-use Rattle.scans.proofs.FindLaws.{Left, length-list, found3, found4, found5, all3, done3, stop3, skip3, try3, done4, hit4, miss4, done5, stop5, skip5, hit5, miss5}
+use Rattle.scans.proofs.FindLaws.{Left, found3, found4, found5, all3, done3, stop3, skip3, try3, done4, hit4, miss4, done5, stop5, skip5, hit5, miss5}
 use borrow.Author.Needs.{needs}
 use Rattle.scans.proofs.find_move.Statement.{statement}
 use Rattle.scans.proofs.find_move.Tie as tie
 
 abbrev Inv-fifths : tie.InvT-fifths
-Inv-fifths matrix near k round places fwd t1 n t2 t2-next d12 chosen₀ i t3 d23 g1 side after t4 g2 t4-succ t4-pred j₀ chosen j =
+Inv-fifths matrix near k round places fwd t1 n t2 t2-next d12 chosen₀ i t3 d23 t3-over t3-barred g1 side after t4 g2 t4-succ t4-pred j₀ chosen j =
     Left (length round) (found5 (legIn (length round) matrix) (listIn k near) fwd round (t1 .0) (t2 .0) after (t3 .0) (t4 .0) g2 j g1 (side + 1) d12 i) (foundIn (length round) matrix k near fwd round (t1 .0)) j k (chosen .case) (chosen .gain) (chosen .t3 .0) (chosen .t4 .0) (chosen .t5 .0) (chosen .t6 .0)
 
 abbrev μ-fifths : tie.MeasureT-fifths
-μ-fifths matrix near k round places fwd t1 n t2 t2-next d12 chosen₀ i t3 d23 g1 side after t4 g2 t4-succ t4-pred j₀ chosen j =
+μ-fifths matrix near k round places fwd t1 n t2 t2-next d12 chosen₀ i t3 d23 t3-over t3-barred g1 side after t4 g2 t4-succ t4-pred j₀ chosen j =
     k - j
 
 abbrev Inv-sides : tie.InvT-sides
-Inv-sides matrix near k round places fwd t1 n t2 t2-next d12 chosen₀ i t3 d23 g1 side₀ chosen side =
+Inv-sides matrix near k round places fwd t1 n t2 t2-next d12 chosen₀ i t3 d23 t3-over t3-barred g1 side₀ chosen side =
     Left (length round) (found4 (legIn (length round) matrix) (listIn k near) fwd round (t1 .0) (t2 .0) (t3 .0) g1 side d12 i) (foundIn (length round) matrix k near fwd round (t1 .0)) side 2 (chosen .case) (chosen .gain) (chosen .t3 .0) (chosen .t4 .0) (chosen .t5 .0) (chosen .t6 .0)
 
 abbrev μ-sides : tie.MeasureT-sides
-μ-sides matrix near k round places fwd t1 n t2 t2-next d12 chosen₀ i t3 d23 g1 side₀ chosen side =
+μ-sides matrix near k round places fwd t1 n t2 t2-next d12 chosen₀ i t3 d23 t3-over t3-barred g1 side₀ chosen side =
     2 - side
 
 abbrev Inv-thirds : tie.InvT-thirds
@@ -52,7 +55,15 @@ no-move-requires c κs = search needs
 
 thirds-holds : tie.Need-thirds-holds Inv-fifths μ-fifths Inv-sides μ-sides Inv-thirds μ-thirds
 unfolding foundIn
-thirds-holds c = let a = (c .before .before .before .before .before .before .before .before .args) in let p = (c .before .before .before .before .before .before .before .before .pre) .0 in let r = a .round .now in let d = legIn (length r) (a .matrix .now) in let list = listIn (a .k) (a .near .now) in record { yet = (c .no-move) .ensures (length r) (omega (arith, (c .before .before .before .before .before .before .before .before .pre) .1)); within = search needs; finds = all3 d list (a .fwd) r (a .t1 .0) ((c .before .before .before .ahead) .result .0) ((c .before .dist) .result) (cc ((c .before .before .before .ahead) .ensures .is)) (cc ((c .before .dist) .ensures .is)) }
+thirds-holds c =
+    let a = (c .before .before .before .before .before .before .before .before .args) in
+    let p = (c .before .before .before .before .before .before .before .before .pre) .0 in
+    let r = a .round .now in
+    let d = legIn (length r) (a .matrix .now) in
+    let list = listIn (a .k) (a .near .now) in
+    let t2 = (c .before .before .before .ahead) in
+    let d12 = (c .before .dist) in
+    record { yet = (c .no-move) .ensures (length r) (omega (arith, (c .before .before .before .before .before .before .before .before .pre) .1)); within = search needs; finds = all3 d list (a .fwd) r (a .t1 .0) (t2 .result .0) (d12 .result) (t2 .ensures .is) (d12 .ensures .is) }
 
 listed-requires :
     tie.Need-listed-requires Inv-fifths μ-fifths Inv-sides μ-sides Inv-thirds μ-thirds
@@ -73,19 +84,61 @@ thirds-less : tie.Need-thirds-less Inv-fifths μ-fifths Inv-sides μ-sides Inv-t
 thirds-less c = omega (arith, (c .before .before .before .before .before .thirds-test) .taken)
 
 thirds-again : tie.Need-thirds-again Inv-fifths μ-fifths Inv-sides μ-sides Inv-thirds μ-thirds
-thirds-again c = let a = (c .before .before .before .before .before .before .before .before .before .before .before .before .before .before .before .args) in let p = (c .before .before .before .before .before .before .before .before .before .before .before .before .before .before .before .pre) .0 in let r = a .round .now in let d = legIn (length r) (a .matrix .now) in let list = listIn (a .k) (a .near .now) in let hi : (c .before .before .before .before .before .before .thirds) .i < length (list ((c .before .before .before .before .before .before .before .before .before .before .ahead) .result .0)) = omega (arith, length-list (a .near .now) (a .k) (length r) ((c .before .before .before .before .before .before .before .before .before .before .ahead) .result .0) (p .lists) ((c .before .before .before .before .before .before .before .before .before .before .ahead) .ensures .below), (c .before .before .before .before .before .thirds-test) .taken) in record { yet = (c .before .before .before .before .before .before .thirds) .inv .yet; within = omega (arith, (c .before .before .before .before .before .thirds-test) .taken); finds = sym (skip3 d list (a .fwd) r (a .t1 .0) ((c .before .before .before .before .before .before .before .before .before .before .ahead) .result .0) ((c .before .before .before .before .before .before .before .before .dist) .result) ((c .before .before .before .before .before .before .thirds) .i) ((c .before .before .before .before .listed) .result .0) ((c .before .before .before .dist2) .result) hi (cc ((c .before .before .before .before .listed) .ensures .is)) (cc ((c .before .before .before .dist2) .ensures .is)) ((c .before .before .if1) .left) ((c .before .either) .result) ((c .before .before .before .before .before .before .before .before .before .ahead2) .result .0) (cc ((c .before .before .before .before .before .before .before .before .before .ahead2) .ensures .is)) (cc ((c .before .either) .ensures)) ((c .if2) .taken)) ∙ (c .before .before .before .before .before .before .thirds) .inv .finds }
+thirds-again c =
+    let a = (c .before .before .before .before .before .before .before .before .before .before .before .before .before .before .before .args) in
+    let p = (c .before .before .before .before .before .before .before .before .before .before .before .before .before .before .before .pre) .0 in
+    let r = a .round .now in
+    let d = legIn (length r) (a .matrix .now) in
+    let list = listIn (a .k) (a .near .now) in
+    let t2 = (c .before .before .before .before .before .before .before .before .before .before .ahead) in
+    let d12 = (c .before .before .before .before .before .before .before .before .dist) in
+    let i = (c .before .before .before .before .before .before .thirds) .i in
+    let t3 = (c .before .before .before .before .listed) in
+    let d23 = (c .before .before .before .dist2) in
+    let hi : i < length (list (t2 .result .0)) = omega (arith, length-list (a .near .now) (a .k) (length r) (t2 .result .0) (p .lists) (t2 .ensures .below), (c .before .before .before .before .before .thirds-test) .taken) in
+    let leg : d23 .result ≡ d (t2 .result .0) (t3 .result .0) = cc (d23 .ensures .is) in
+    let on : leb (d12 .result) (d23 .result) ≡ false = cc ((c .before .if1) .left) in
+    let barred : (c .before .before .either) .result ≡ true = cc ((c .if2) .taken) in
+    record { yet = (c .before .before .before .before .before .before .thirds) .inv .yet; within = omega (arith, (c .before .before .before .before .before .thirds-test) .taken); finds = sym (skip3 d list (a .fwd) r (a .t1 .0) (t2 .result .0) (d12 .result) i (t3 .result .0) (d23 .result) hi (cc (t3 .ensures .is)) leg on ((c .before .before .either) .result) ((c .before .before .before .before .before .before .before .before .before .ahead2) .result .0) ((c .before .before .before .before .before .before .before .before .before .ahead2) .ensures .is) ((c .before .before .either) .ensures) barred) ∙ (c .before .before .before .before .before .before .thirds) .inv .finds }
 
 sub-g1 : tie.Need-sub-g1 Inv-fifths μ-fifths Inv-sides μ-sides Inv-thirds μ-thirds
-sub-g1 c = omega (arith, (c .before .before .if1) .left)
+sub-g1 c = omega (arith, leb-false ((c .before .before .before .before .before .before .before .before .dist) .result) ((c .before .before .before .dist2) .result) ((c .before .if1) .left))
 
 sides-holds : tie.Need-sides-holds Inv-fifths μ-fifths Inv-sides μ-sides Inv-thirds μ-thirds
-sides-holds c = let a = (c .before .before .before .before .before .before .before .before .before .before .before .before .before .before .before .args) in let p = (c .before .before .before .before .before .before .before .before .before .before .before .before .before .before .before .pre) .0 in let r = a .round .now in let d = legIn (length r) (a .matrix .now) in let list = listIn (a .k) (a .near .now) in let hi : (c .before .before .before .before .before .before .thirds) .i < length (list ((c .before .before .before .before .before .before .before .before .before .before .ahead) .result .0)) = omega (arith, length-list (a .near .now) (a .k) (length r) ((c .before .before .before .before .before .before .before .before .before .before .ahead) .result .0) (p .lists) ((c .before .before .before .before .before .before .before .before .before .before .ahead) .ensures .below), (c .before .before .before .before .before .thirds-test) .taken) in record { yet = (c .before .before .before .before .before .before .thirds) .inv .yet; within = search needs; finds = sym (try3 d list (a .fwd) r (a .t1 .0) ((c .before .before .before .before .before .before .before .before .before .before .ahead) .result .0) ((c .before .before .before .before .before .before .before .before .dist) .result) ((c .before .before .before .before .before .before .thirds) .i) ((c .before .before .before .before .listed) .result .0) ((c .before .before .before .dist2) .result) hi (cc ((c .before .before .before .before .listed) .ensures .is)) (cc ((c .before .before .before .dist2) .ensures .is)) ((c .before .before .if1) .left) ((c .before .either) .result) ((c .before .before .before .before .before .before .before .before .before .ahead2) .result .0) (cc ((c .before .before .before .before .before .before .before .before .before .ahead2) .ensures .is)) (cc ((c .before .either) .ensures)) ((c .if2) .left)) ∙ (c .before .before .before .before .before .before .thirds) .inv .finds }
+sides-holds c =
+    let a = (c .before .before .before .before .before .before .before .before .before .before .before .before .before .before .before .args) in
+    let p = (c .before .before .before .before .before .before .before .before .before .before .before .before .before .before .before .pre) .0 in
+    let r = a .round .now in
+    let d = legIn (length r) (a .matrix .now) in
+    let list = listIn (a .k) (a .near .now) in
+    let t2 = (c .before .before .before .before .before .before .before .before .before .before .ahead) in
+    let d12 = (c .before .before .before .before .before .before .before .before .dist) in
+    let i = (c .before .before .before .before .before .before .thirds) .i in
+    let t3 = (c .before .before .before .before .listed) in
+    let d23 = (c .before .before .before .dist2) in
+    let hi : i < length (list (t2 .result .0)) = omega (arith, length-list (a .near .now) (a .k) (length r) (t2 .result .0) (p .lists) (t2 .ensures .below), (c .before .before .before .before .before .thirds-test) .taken) in
+    let leg : d23 .result ≡ d (t2 .result .0) (t3 .result .0) = cc (d23 .ensures .is) in
+    let on : leb (d12 .result) (d23 .result) ≡ false = cc ((c .before .if1) .left) in
+    let free : (c .before .before .either) .result ≡ false = cc ((c .if2) .left) in
+    record { yet = (c .before .before .before .before .before .before .thirds) .inv .yet; within = search needs; finds = sym (try3 d list (a .fwd) r (a .t1 .0) (t2 .result .0) (d12 .result) i (t3 .result .0) (d23 .result) hi (cc (t3 .ensures .is)) leg on ((c .before .before .either) .result) ((c .before .before .before .before .before .before .before .before .before .ahead2) .result .0) ((c .before .before .before .before .before .before .before .before .before .ahead2) .ensures .is) ((c .before .before .either) .ensures) free) ∙ (c .before .before .before .before .before .before .thirds) .inv .finds }
 
 thirds-less-2 : tie.Need-thirds-less-2 Inv-fifths μ-fifths Inv-sides μ-sides Inv-thirds μ-thirds
 thirds-less-2 c = omega (arith, (c .before .before .before .before .before .before .before .thirds-test) .taken)
 
 thirds-again-2 : tie.Need-thirds-again-2 Inv-fifths μ-fifths Inv-sides μ-sides Inv-thirds μ-thirds
-thirds-again-2 c = let a = (c .before .before .before .before .before .before .before .before .before .before .before .before .before .before .before .before .before .args) in let p = (c .before .before .before .before .before .before .before .before .before .before .before .before .before .before .before .before .before .pre) .0 in let r = a .round .now in let d = legIn (length r) (a .matrix .now) in let list = listIn (a .k) (a .near .now) in record { yet = (c .before .sides) .inv .yet; within = omega (arith, (c .before .before .before .before .before .before .before .thirds-test) .taken); finds = sym (done4 d list (a .fwd) r (a .t1 .0) ((c .before .before .before .before .before .before .before .before .before .before .before .before .ahead) .result .0) ((c .before .before .before .before .before .before .listed) .result .0) ((c .before .before .before .before .before .before .before .before .before .before .dist) .result - (c .before .before .before .before .before .dist2) .result) ((c .before .sides) .side) ((c .before .before .before .before .before .before .before .before .before .before .dist) .result) ((c .before .before .before .before .before .before .before .before .thirds) .i + 1) ((c .sides-test) .left)) ∙ (c .before .sides) .inv .finds }
+thirds-again-2 c =
+    let a = (c .before .before .before .before .before .before .before .before .before .before .before .before .before .before .before .before .before .args) in
+    let p = (c .before .before .before .before .before .before .before .before .before .before .before .before .before .before .before .before .before .pre) .0 in
+    let r = a .round .now in
+    let d = legIn (length r) (a .matrix .now) in
+    let list = listIn (a .k) (a .near .now) in
+    let t2 = (c .before .before .before .before .before .before .before .before .before .before .before .before .ahead) in
+    let d12 = (c .before .before .before .before .before .before .before .before .before .before .dist) in
+    let i = (c .before .before .before .before .before .before .before .before .thirds) .i in
+    let t3 = (c .before .before .before .before .before .before .listed) in
+    let d23 = (c .before .before .before .before .before .dist2) in
+    let s = (c .before .sides) .side in
+    record { yet = (c .before .sides) .inv .yet; within = omega (arith, (c .before .before .before .before .before .before .before .thirds-test) .taken); finds = sym (done4 d list (a .fwd) r (a .t1 .0) (t2 .result .0) (t3 .result .0) (d12 .result - d23 .result) s (d12 .result) (i + 1) ((c .sides-test) .left)) ∙ (c .before .sides) .inv .finds }
 
 beside-requires :
     tie.Need-beside-requires Inv-fifths μ-fifths Inv-sides μ-sides Inv-thirds μ-thirds
@@ -109,7 +162,22 @@ pred-requires : tie.Need-pred-requires Inv-fifths μ-fifths Inv-sides μ-sides I
 pred-requires c κs = ((c .before .before .before .before .before .before .before .before .before .before .before .before .before .before .before .before .before .before .before .before .before .before .before .pre) .0 .tied, (c .before .before .before .before .before .beside) .ensures .below)
 
 fifths-holds : tie.Need-fifths-holds Inv-fifths μ-fifths Inv-sides μ-sides Inv-thirds μ-thirds
-fifths-holds c = let a = (c .before .before .before .before .before .before .before .before .before .before .before .before .before .before .before .before .before .before .before .before .before .before .before .before .args) in let p = (c .before .before .before .before .before .before .before .before .before .before .before .before .before .before .before .before .before .before .before .before .before .before .before .before .pre) .0 in let r = a .round .now in let d = legIn (length r) (a .matrix .now) in let list = listIn (a .k) (a .near .now) in record { yet = (c .before .before .before .before .before .before .before .before .sides) .inv .yet; within = search needs; finds = sym (miss4 d list (a .fwd) r (a .t1 .0) ((c .before .before .before .before .before .before .before .before .before .before .before .before .before .before .before .before .before .before .before .ahead) .result .0) ((c .before .before .before .before .before .before .before .before .before .before .before .before .before .listed) .result .0) ((c .before .before .before .before .before .before .before .before .before .before .before .before .before .before .before .before .before .dist) .result - (c .before .before .before .before .before .before .before .before .before .before .before .before .dist2) .result) ((c .before .before .before .before .before .before .before .before .sides) .side) ((c .before .before .before .before .before .before .before .before .before .before .before .before .before .before .before .before .before .dist) .result) ((c .before .before .before .before .before .before .before .before .before .before .before .before .before .before .before .thirds) .i + 1) _ ((c .before .before .before .before .before .before .beside) .result .0) ((c .before .before .before .before .before .dist3) .result) ((c .before .before .before .before .before .before .before .sides-test) .taken) ((c .before .before .before .before .before .before .beside) .ensures .is) (cc) (cc ((c .before .before .before .before .before .dist3) .ensures .is)) _ _ _ _ _ _ ((c .before .before .before .before .try-two) .ensures .is) ((c .before .before .if3) .left)) ∙ (c .before .before .before .before .before .before .before .before .sides) .inv .finds }
+fifths-holds c =
+    let a = (c .before .before .before .before .before .before .before .before .before .before .before .before .before .before .before .before .before .before .before .before .before .before .before .before .args) in
+    let p = (c .before .before .before .before .before .before .before .before .before .before .before .before .before .before .before .before .before .before .before .before .before .before .before .before .pre) .0 in
+    let r = a .round .now in
+    let d = legIn (length r) (a .matrix .now) in
+    let list = listIn (a .k) (a .near .now) in
+    let t2 = (c .before .before .before .before .before .before .before .before .before .before .before .before .before .before .before .before .before .before .before .ahead) in
+    let d12 = (c .before .before .before .before .before .before .before .before .before .before .before .before .before .before .before .before .before .dist) in
+    let i = (c .before .before .before .before .before .before .before .before .before .before .before .before .before .before .before .thirds) .i in
+    let t3 = (c .before .before .before .before .before .before .before .before .before .before .before .before .before .listed) in
+    let d23 = (c .before .before .before .before .before .before .before .before .before .before .before .before .dist2) in
+    let s = (c .before .before .before .before .before .before .before .before .sides) .side in
+    let t4 = (c .before .before .before .before .before .before .beside) in
+    let d34 = (c .before .before .before .before .before .dist3) in
+    let leg : d34 .result ≡ d (t3 .result .0) (t4 .result .0) = cc (d34 .ensures .is) in
+    record { yet = (c .before .before .before .before .before .before .before .before .sides) .inv .yet; within = search needs; finds = sym (miss4 d list (a .fwd) r (a .t1 .0) (t2 .result .0) (t3 .result .0) (d12 .result - d23 .result) s (d12 .result) (i + 1) _ (t4 .result .0) (d34 .result) ((c .before .before .before .before .before .before .before .sides-test) .taken) (t4 .ensures .is) (cc) leg _ _ _ _ _ _ ((c .before .before .before .before .try-two) .ensures .is) ((c .before .before .if3) .left)) ∙ (c .before .before .before .before .before .before .before .before .sides) .inv .finds }
 
 listed-requires-2 :
     tie.Need-listed-requires-2 Inv-fifths μ-fifths Inv-sides μ-sides Inv-thirds μ-thirds
@@ -130,10 +198,31 @@ fifths-less : tie.Need-fifths-less Inv-fifths μ-fifths Inv-sides μ-sides Inv-t
 fifths-less c = omega (arith, (c .before .before .before .before .before .fifths-test) .taken)
 
 fifths-again : tie.Need-fifths-again Inv-fifths μ-fifths Inv-sides μ-sides Inv-thirds μ-thirds
-fifths-again c = let a = (c .before .before .before .before .before .before .before .before .before .before .before .before .before .before .before .before .before .before .before .before .before .before .before .before .before .before .before .before .before .before .before .args) in let p = (c .before .before .before .before .before .before .before .before .before .before .before .before .before .before .before .before .before .before .before .before .before .before .before .before .before .before .before .before .before .before .before .pre) .0 in let r = a .round .now in let d = legIn (length r) (a .matrix .now) in let list = listIn (a .k) (a .near .now) in let hj : (c .before .before .before .before .before .before .fifths) .j < length (list ((c .before .before .before .before .before .before .before .before .before .before .before .before .before .beside) .result .0)) = omega (arith, length-list (a .near .now) (a .k) (length r) ((c .before .before .before .before .before .before .before .before .before .before .before .before .before .beside) .result .0) (p .lists) ((c .before .before .before .before .before .before .before .before .before .before .before .before .before .beside) .ensures .below), (c .before .before .before .before .before .fifths-test) .taken) in record { yet = (c .before .before .before .before .before .before .fifths) .inv .yet; within = omega (arith, (c .before .before .before .before .before .fifths-test) .taken); finds = sym (skip5 d list (a .fwd) r (a .t1 .0) ((c .before .before .before .before .before .before .before .before .before .before .before .before .before .before .before .before .before .before .before .before .before .before .before .before .before .before .ahead) .result .0) (eqb ((c .before .before .before .before .before .before .before .before .before .before .before .before .before .before .before .sides) .side) 1) ((c .before .before .before .before .before .before .before .before .before .before .before .before .before .before .before .before .before .before .before .before .listed) .result .0) ((c .before .before .before .before .before .before .before .before .before .before .before .before .before .beside) .result .0) (((c .before .before .before .before .before .before .before .before .before .before .before .before .before .before .before .before .before .before .before .before .before .before .before .before .dist) .result - (c .before .before .before .before .before .before .before .before .before .before .before .before .before .before .before .before .before .before .before .dist2) .result) + (c .before .before .before .before .before .before .before .before .before .before .before .before .dist3) .result) ((c .before .before .before .before .before .before .fifths) .j) ((c .before .before .before .before .before .before .before .before .before .before .before .before .before .before .before .before .before .before .before .before .before .before .before .before .dist) .result - (c .before .before .before .before .before .before .before .before .before .before .before .before .before .before .before .before .before .before .before .dist2) .result) ((c .before .before .before .before .before .before .before .before .before .before .before .before .before .before .before .sides) .side + 1) ((c .before .before .before .before .before .before .before .before .before .before .before .before .before .before .before .before .before .before .before .before .before .before .before .before .dist) .result) ((c .before .before .before .before .before .before .before .before .before .before .before .before .before .before .before .before .before .before .before .before .before .before .thirds) .i + 1) ((c .before .before .before .before .listed2) .result .0) ((c .before .before .before .dist4) .result) hj (cc ((c .before .before .before .before .listed2) .ensures .is)) (cc ((c .before .before .before .dist4) .ensures .is)) ((c .before .before .if4) .left) ((c .before .any-of) .result) ((c .before .before .before .before .before .before .before .before .succ) .result .0) ((c .before .before .before .before .before .before .before .pred) .result .0) (cc ((c .before .before .before .before .before .before .before .before .succ) .ensures .is)) (cc ((c .before .before .before .before .before .before .before .pred) .ensures .is)) (cc ((c .before .any-of) .ensures)) ((c .if5) .taken)) ∙ (c .before .before .before .before .before .before .fifths) .inv .finds }
+fifths-again c =
+    let a = (c .before .before .before .before .before .before .before .before .before .before .before .before .before .before .before .before .before .before .before .before .before .before .before .before .before .before .before .before .before .before .before .args) in
+    let p = (c .before .before .before .before .before .before .before .before .before .before .before .before .before .before .before .before .before .before .before .before .before .before .before .before .before .before .before .before .before .before .before .pre) .0 in
+    let r = a .round .now in
+    let d = legIn (length r) (a .matrix .now) in
+    let list = listIn (a .k) (a .near .now) in
+    let t2 = (c .before .before .before .before .before .before .before .before .before .before .before .before .before .before .before .before .before .before .before .before .before .before .before .before .before .before .ahead) in
+    let d12 = (c .before .before .before .before .before .before .before .before .before .before .before .before .before .before .before .before .before .before .before .before .before .before .before .before .dist) in
+    let i = (c .before .before .before .before .before .before .before .before .before .before .before .before .before .before .before .before .before .before .before .before .before .before .thirds) .i in
+    let t3 = (c .before .before .before .before .before .before .before .before .before .before .before .before .before .before .before .before .before .before .before .before .listed) in
+    let d23 = (c .before .before .before .before .before .before .before .before .before .before .before .before .before .before .before .before .before .before .before .dist2) in
+    let s = (c .before .before .before .before .before .before .before .before .before .before .before .before .before .before .before .sides) .side in
+    let t4 = (c .before .before .before .before .before .before .before .before .before .before .before .before .before .beside) in
+    let d34 = (c .before .before .before .before .before .before .before .before .before .before .before .before .dist3) in
+    let j = (c .before .before .before .before .before .before .fifths) .j in
+    let t5 = (c .before .before .before .before .listed2) in
+    let d45 = (c .before .before .before .dist4) in
+    let hj : j < length (list (t4 .result .0)) = omega (arith, length-list (a .near .now) (a .k) (length r) (t4 .result .0) (p .lists) (t4 .ensures .below), (c .before .before .before .before .before .fifths-test) .taken) in
+    let leg : d45 .result ≡ d (t4 .result .0) (t5 .result .0) = cc (d45 .ensures .is) in
+    let on : leb ((d12 .result - d23 .result) + d34 .result) (d45 .result) ≡ false = cc ((c .before .if4) .left) in
+    let barred : (c .before .before .any-of) .result ≡ true = cc ((c .if5) .taken) in
+    record { yet = (c .before .before .before .before .before .before .fifths) .inv .yet; within = omega (arith, (c .before .before .before .before .before .fifths-test) .taken); finds = sym (skip5 d list (a .fwd) r (a .t1 .0) (t2 .result .0) (eqb s 1) (t3 .result .0) (t4 .result .0) ((d12 .result - d23 .result) + d34 .result) j (d12 .result - d23 .result) (s + 1) (d12 .result) (i + 1) (t5 .result .0) (d45 .result) hj (cc (t5 .ensures .is)) leg on ((c .before .before .any-of) .result) ((c .before .before .before .before .before .before .before .before .succ) .result .0) ((c .before .before .before .before .before .before .before .pred) .result .0) ((c .before .before .before .before .before .before .before .before .succ) .ensures .is) ((c .before .before .before .before .before .before .before .pred) .ensures .is) ((c .before .before .any-of) .ensures) barred) ∙ (c .before .before .before .before .before .before .fifths) .inv .finds }
 
 sub-g3 : tie.Need-sub-g3 Inv-fifths μ-fifths Inv-sides μ-sides Inv-thirds μ-thirds
-sub-g3 c = omega (arith, (c .before .before .if4) .left)
+sub-g3 c = omega (arith, leb-false ((c .before .before .before .before .before .before .before .before .before .before .before .before .before .before .before .before .before .before .before .before .before .before .before .before .dist) .result - (c .before .before .before .before .before .before .before .before .before .before .before .before .before .before .before .before .before .before .before .dist2) .result + (c .before .before .before .before .before .before .before .before .before .before .before .before .dist3) .result) ((c .before .before .before .dist4) .result) ((c .before .if4) .left))
 
 try-fifth-requires :
     tie.Need-try-fifth-requires Inv-fifths μ-fifths Inv-sides μ-sides Inv-thirds μ-thirds
@@ -143,7 +232,28 @@ fifths-less-2 : tie.Need-fifths-less-2 Inv-fifths μ-fifths Inv-sides μ-sides I
 fifths-less-2 c = omega (arith, (c .before .before .before .before .before .before .before .before .fifths-test) .taken)
 
 fifths-again-2 : tie.Need-fifths-again-2 Inv-fifths μ-fifths Inv-sides μ-sides Inv-thirds μ-thirds
-fifths-again-2 c = let a = (c .before .before .before .before .before .before .before .before .before .before .before .before .before .before .before .before .before .before .before .before .before .before .before .before .before .before .before .before .before .before .before .before .before .before .args) in let p = (c .before .before .before .before .before .before .before .before .before .before .before .before .before .before .before .before .before .before .before .before .before .before .before .before .before .before .before .before .before .before .before .before .before .before .pre) .0 in let r = a .round .now in let d = legIn (length r) (a .matrix .now) in let list = listIn (a .k) (a .near .now) in let hj : (c .before .before .before .before .before .before .before .before .before .fifths) .j < length (list ((c .before .before .before .before .before .before .before .before .before .before .before .before .before .before .before .before .beside) .result .0)) = omega (arith, length-list (a .near .now) (a .k) (length r) ((c .before .before .before .before .before .before .before .before .before .before .before .before .before .before .before .before .beside) .result .0) (p .lists) ((c .before .before .before .before .before .before .before .before .before .before .before .before .before .before .before .before .beside) .ensures .below), (c .before .before .before .before .before .before .before .before .fifths-test) .taken) in record { yet = (c .before .before .before .before .before .before .before .before .before .fifths) .inv .yet; within = omega (arith, (c .before .before .before .before .before .before .before .before .fifths-test) .taken); finds = sym (miss5 d list (a .fwd) r (a .t1 .0) ((c .before .before .before .before .before .before .before .before .before .before .before .before .before .before .before .before .before .before .before .before .before .before .before .before .before .before .before .before .before .ahead) .result .0) (eqb ((c .before .before .before .before .before .before .before .before .before .before .before .before .before .before .before .before .before .before .sides) .side) 1) ((c .before .before .before .before .before .before .before .before .before .before .before .before .before .before .before .before .before .before .before .before .before .before .before .listed) .result .0) ((c .before .before .before .before .before .before .before .before .before .before .before .before .before .before .before .before .beside) .result .0) (((c .before .before .before .before .before .before .before .before .before .before .before .before .before .before .before .before .before .before .before .before .before .before .before .before .before .before .before .dist) .result - (c .before .before .before .before .before .before .before .before .before .before .before .before .before .before .before .before .before .before .before .before .before .before .dist2) .result) + (c .before .before .before .before .before .before .before .before .before .before .before .before .before .before .before .dist3) .result) ((c .before .before .before .before .before .before .before .before .before .fifths) .j) ((c .before .before .before .before .before .before .before .before .before .before .before .before .before .before .before .before .before .before .before .before .before .before .before .before .before .before .before .dist) .result - (c .before .before .before .before .before .before .before .before .before .before .before .before .before .before .before .before .before .before .before .before .before .before .dist2) .result) ((c .before .before .before .before .before .before .before .before .before .before .before .before .before .before .before .before .before .before .sides) .side + 1) ((c .before .before .before .before .before .before .before .before .before .before .before .before .before .before .before .before .before .before .before .before .before .before .before .before .before .before .before .dist) .result) ((c .before .before .before .before .before .before .before .before .before .before .before .before .before .before .before .before .before .before .before .before .before .before .before .before .before .thirds) .i + 1) ((c .before .before .before .before .before .before .before .listed2) .result .0) ((c .before .before .before .before .before .before .dist4) .result) hj (cc ((c .before .before .before .before .before .before .before .listed2) .ensures .is)) (cc ((c .before .before .before .before .before .before .dist4) .ensures .is)) ((c .before .before .before .before .before .if4) .left) ((c .before .before .before .before .any-of) .result) ((c .before .before .before .before .before .before .before .before .before .before .before .succ) .result .0) ((c .before .before .before .before .before .before .before .before .before .before .pred) .result .0) (cc ((c .before .before .before .before .before .before .before .before .before .before .before .succ) .ensures .is)) (cc ((c .before .before .before .before .before .before .before .before .before .before .pred) .ensures .is)) (cc ((c .before .before .before .before .any-of) .ensures)) ((c .before .before .before .if5) .left) _ _ _ _ _ _ ((c .before .before .try-fifth) .ensures .is) ((c .if6) .left)) ∙ (c .before .before .before .before .before .before .before .before .before .fifths) .inv .finds }
+fifths-again-2 c =
+    let a = (c .before .before .before .before .before .before .before .before .before .before .before .before .before .before .before .before .before .before .before .before .before .before .before .before .before .before .before .before .before .before .before .before .before .before .args) in
+    let p = (c .before .before .before .before .before .before .before .before .before .before .before .before .before .before .before .before .before .before .before .before .before .before .before .before .before .before .before .before .before .before .before .before .before .before .pre) .0 in
+    let r = a .round .now in
+    let d = legIn (length r) (a .matrix .now) in
+    let list = listIn (a .k) (a .near .now) in
+    let t2 = (c .before .before .before .before .before .before .before .before .before .before .before .before .before .before .before .before .before .before .before .before .before .before .before .before .before .before .before .before .before .ahead) in
+    let d12 = (c .before .before .before .before .before .before .before .before .before .before .before .before .before .before .before .before .before .before .before .before .before .before .before .before .before .before .before .dist) in
+    let i = (c .before .before .before .before .before .before .before .before .before .before .before .before .before .before .before .before .before .before .before .before .before .before .before .before .before .thirds) .i in
+    let t3 = (c .before .before .before .before .before .before .before .before .before .before .before .before .before .before .before .before .before .before .before .before .before .before .before .listed) in
+    let d23 = (c .before .before .before .before .before .before .before .before .before .before .before .before .before .before .before .before .before .before .before .before .before .before .dist2) in
+    let s = (c .before .before .before .before .before .before .before .before .before .before .before .before .before .before .before .before .before .before .sides) .side in
+    let t4 = (c .before .before .before .before .before .before .before .before .before .before .before .before .before .before .before .before .beside) in
+    let d34 = (c .before .before .before .before .before .before .before .before .before .before .before .before .before .before .before .dist3) in
+    let j = (c .before .before .before .before .before .before .before .before .before .fifths) .j in
+    let t5 = (c .before .before .before .before .before .before .before .listed2) in
+    let d45 = (c .before .before .before .before .before .before .dist4) in
+    let hj : j < length (list (t4 .result .0)) = omega (arith, length-list (a .near .now) (a .k) (length r) (t4 .result .0) (p .lists) (t4 .ensures .below), (c .before .before .before .before .before .before .before .before .fifths-test) .taken) in
+    let leg : d45 .result ≡ d (t4 .result .0) (t5 .result .0) = cc (d45 .ensures .is) in
+    let on : leb ((d12 .result - d23 .result) + d34 .result) (d45 .result) ≡ false = cc ((c .before .before .before .before .if4) .left) in
+    let free : (c .before .before .before .before .before .any-of) .result ≡ false = cc ((c .before .before .before .if5) .left) in
+    record { yet = (c .before .before .before .before .before .before .before .before .before .fifths) .inv .yet; within = omega (arith, (c .before .before .before .before .before .before .before .before .fifths-test) .taken); finds = sym (miss5 d list (a .fwd) r (a .t1 .0) (t2 .result .0) (eqb s 1) (t3 .result .0) (t4 .result .0) ((d12 .result - d23 .result) + d34 .result) j (d12 .result - d23 .result) (s + 1) (d12 .result) (i + 1) (t5 .result .0) (d45 .result) hj (cc (t5 .ensures .is)) leg on ((c .before .before .before .before .before .any-of) .result) ((c .before .before .before .before .before .before .before .before .before .before .before .succ) .result .0) ((c .before .before .before .before .before .before .before .before .before .before .pred) .result .0) ((c .before .before .before .before .before .before .before .before .before .before .before .succ) .ensures .is) ((c .before .before .before .before .before .before .before .before .before .before .pred) .ensures .is) ((c .before .before .before .before .before .any-of) .ensures) free _ _ _ _ _ _ ((c .before .before .try-fifth) .ensures .is) ((c .if6) .left)) ∙ (c .before .before .before .before .before .before .before .before .before .fifths) .inv .finds }
 
 add-side : tie.Need-add-side Inv-fifths μ-fifths Inv-sides μ-sides Inv-thirds μ-thirds
 add-side c = omega (arith, (c .before .before .before .before .before .before .before .before .before .sides-test) .taken)
@@ -152,19 +262,100 @@ sides-less : tie.Need-sides-less Inv-fifths μ-fifths Inv-sides μ-sides Inv-thi
 sides-less c = omega (arith, (c .before .before .before .before .before .before .before .before .before .sides-test) .taken)
 
 sides-again : tie.Need-sides-again Inv-fifths μ-fifths Inv-sides μ-sides Inv-thirds μ-thirds
-sides-again c = let a = (c .before .before .before .before .before .before .before .before .before .before .before .before .before .before .before .before .before .before .before .before .before .before .before .before .before .before .args) in let p = (c .before .before .before .before .before .before .before .before .before .before .before .before .before .before .before .before .before .before .before .before .before .before .before .before .before .before .pre) .0 in let r = a .round .now in let d = legIn (length r) (a .matrix .now) in let list = listIn (a .k) (a .near .now) in let rest : found4 d list (a .fwd) r (a .t1 .0) ((c .before .before .before .before .before .before .before .before .before .before .before .before .before .before .before .before .before .before .before .before .before .ahead) .result .0) ((c .before .before .before .before .before .before .before .before .before .before .before .before .before .before .before .listed) .result .0) ((c .before .before .before .before .before .before .before .before .before .before .before .before .before .before .before .before .before .before .before .dist) .result - (c .before .before .before .before .before .before .before .before .before .before .before .before .before .before .dist2) .result) ((c .before .before .before .before .before .before .before .before .before .before .sides) .side + 1) ((c .before .before .before .before .before .before .before .before .before .before .before .before .before .before .before .before .before .before .before .dist) .result) ((c .before .before .before .before .before .before .before .before .before .before .before .before .before .before .before .before .before .thirds) .i + 1) ≡ foundIn (length r) (a .matrix .now) (a .k) (a .near .now) (a .fwd) r (a .t1 .0) = ⊎-elim (λ w. sym (done5 d list (a .fwd) r (a .t1 .0) ((c .before .before .before .before .before .before .before .before .before .before .before .before .before .before .before .before .before .before .before .before .before .ahead) .result .0) (eqb ((c .before .before .before .before .before .before .before .before .before .before .sides) .side) 1) ((c .before .before .before .before .before .before .before .before .before .before .before .before .before .before .before .listed) .result .0) ((c .before .before .before .before .before .before .before .before .beside) .result .0) (((c .before .before .before .before .before .before .before .before .before .before .before .before .before .before .before .before .before .before .before .dist) .result - (c .before .before .before .before .before .before .before .before .before .before .before .before .before .before .dist2) .result) + (c .before .before .before .before .before .before .before .dist3) .result) ((c .before .fifths) .j) ((c .before .before .before .before .before .before .before .before .before .before .before .before .before .before .before .before .before .before .before .dist) .result - (c .before .before .before .before .before .before .before .before .before .before .before .before .before .before .dist2) .result) ((c .before .before .before .before .before .before .before .before .before .before .sides) .side + 1) ((c .before .before .before .before .before .before .before .before .before .before .before .before .before .before .before .before .before .before .before .dist) .result) ((c .before .before .before .before .before .before .before .before .before .before .before .before .before .before .before .before .before .thirds) .i + 1) (omega (arith, length-list (a .near .now) (a .k) (length r) ((c .before .before .before .before .before .before .before .before .beside) .result .0) (p .lists) ((c .before .before .before .before .before .before .before .before .beside) .ensures .below), w .0 .left))) ∙ (c .before .fifths) .inv .finds) (λ w. let hj : (c .before .fifths) .j < length (list ((c .before .before .before .before .before .before .before .before .beside) .result .0)) = omega (arith, length-list (a .near .now) (a .k) (length r) ((c .before .before .before .before .before .before .before .before .beside) .result .0) (p .lists) ((c .before .before .before .before .before .before .before .before .beside) .ensures .below), w .0 .taken) in sym (stop5 d list (a .fwd) r (a .t1 .0) ((c .before .before .before .before .before .before .before .before .before .before .before .before .before .before .before .before .before .before .before .before .before .ahead) .result .0) (eqb ((c .before .before .before .before .before .before .before .before .before .before .sides) .side) 1) ((c .before .before .before .before .before .before .before .before .before .before .before .before .before .before .before .listed) .result .0) ((c .before .before .before .before .before .before .before .before .beside) .result .0) (((c .before .before .before .before .before .before .before .before .before .before .before .before .before .before .before .before .before .before .before .dist) .result - (c .before .before .before .before .before .before .before .before .before .before .before .before .before .before .dist2) .result) + (c .before .before .before .before .before .before .before .dist3) .result) ((c .before .fifths) .j) ((c .before .before .before .before .before .before .before .before .before .before .before .before .before .before .before .before .before .before .before .dist) .result - (c .before .before .before .before .before .before .before .before .before .before .before .before .before .before .dist2) .result) ((c .before .before .before .before .before .before .before .before .before .before .sides) .side + 1) ((c .before .before .before .before .before .before .before .before .before .before .before .before .before .before .before .before .before .before .before .dist) .result) ((c .before .before .before .before .before .before .before .before .before .before .before .before .before .before .before .before .before .thirds) .i + 1) (w .1 .result .0) (w .2 .result) hj (cc (w .1 .ensures .is)) (cc (w .2 .ensures .is)) (w .3 .taken)) ∙ (c .before .fifths) .inv .finds) ((c .fifths-test) .came) in record { yet = (c .before .fifths) .inv .yet; within = omega (arith, (c .before .before .before .before .before .before .before .before .before .sides-test) .taken); finds = rest }
+sides-again c =
+    let a = (c .before .before .before .before .before .before .before .before .before .before .before .before .before .before .before .before .before .before .before .before .before .before .before .before .before .before .args) in
+    let p = (c .before .before .before .before .before .before .before .before .before .before .before .before .before .before .before .before .before .before .before .before .before .before .before .before .before .before .pre) .0 in
+    let r = a .round .now in
+    let d = legIn (length r) (a .matrix .now) in
+    let list = listIn (a .k) (a .near .now) in
+    let t2 = (c .before .before .before .before .before .before .before .before .before .before .before .before .before .before .before .before .before .before .before .before .before .ahead) in
+    let d12 = (c .before .before .before .before .before .before .before .before .before .before .before .before .before .before .before .before .before .before .before .dist) in
+    let i = (c .before .before .before .before .before .before .before .before .before .before .before .before .before .before .before .before .before .thirds) .i in
+    let t3 = (c .before .before .before .before .before .before .before .before .before .before .before .before .before .before .before .listed) in
+    let d23 = (c .before .before .before .before .before .before .before .before .before .before .before .before .before .before .dist2) in
+    let s = (c .before .before .before .before .before .before .before .before .before .before .sides) .side in
+    let t4 = (c .before .before .before .before .before .before .before .before .beside) in
+    let d34 = (c .before .before .before .before .before .before .before .dist3) in
+    let j = (c .before .fifths) .j in
+    let rest : found4 d list (a .fwd) r (a .t1 .0) (t2 .result .0) (t3 .result .0) (d12 .result - d23 .result) (s + 1) (d12 .result) (i + 1) ≡ foundIn (length r) (a .matrix .now) (a .k) (a .near .now) (a .fwd) r (a .t1 .0)
+    = ⊎-elim (λ w. sym (done5 d list (a .fwd) r (a .t1 .0) (t2 .result .0) (eqb s 1) (t3 .result .0) (t4 .result .0) ((d12 .result - d23 .result) + d34 .result) j (d12 .result - d23 .result) (s + 1) (d12 .result) (i + 1) (omega (arith, length-list (a .near .now) (a .k) (length r) (t4 .result .0) (p .lists) (t4 .ensures .below), w .0 .left))) ∙ (c .before .fifths) .inv .finds)
+    (λ w.
+    let hj : j < length (list (t4 .result .0)) = omega (arith, length-list (a .near .now) (a .k) (length r) (t4 .result .0) (p .lists) (t4 .ensures .below), w .0 .taken) in
+    sym (stop5 d list (a .fwd) r (a .t1 .0) (t2 .result .0) (eqb s 1) (t3 .result .0) (t4 .result .0) ((d12 .result - d23 .result) + d34 .result) j (d12 .result - d23 .result) (s + 1) (d12 .result) (i + 1) (w .1 .result .0) (w .2 .result) hj (cc (w .1 .ensures .is)) (cc (w .2 .ensures .is)) (cc (w .4 .taken))) ∙ (c .before .fifths) .inv .finds)
+    ((c .fifths-test) .came) in
+    record { yet = (c .before .fifths) .inv .yet; within = omega (arith, (c .before .before .before .before .before .before .before .before .before .sides-test) .taken); finds = rest }
 
 returns : tie.Need-returns Inv-fifths μ-fifths Inv-sides μ-sides Inv-thirds μ-thirds
-returns c = let a = (c .before .before .before .before .before .before .before .before .before .before .args) in let p = (c .before .before .before .before .before .before .before .before .before .before .pre) .0 in let r = a .round .now in let d = legIn (length r) (a .matrix .now) in let list = listIn (a .k) (a .near .now) in let end : length (list ((c .before .before .before .before .before .ahead) .result .0)) ≤ (c .before .thirds) .i = omega (arith, length-list (a .near .now) (a .k) (length r) ((c .before .before .before .before .before .ahead) .result .0) (p .lists) ((c .before .before .before .before .before .ahead) .ensures .below), (c .thirds-test) .left) in chosen-is (sym (done3 d list (a .fwd) r (a .t1 .0) ((c .before .before .before .before .before .ahead) .result .0) ((c .before .before .before .dist) .result) ((c .before .thirds) .i) end) ∙ (c .before .thirds) .inv .finds) ((c .before .thirds) .inv .yet)
+returns c =
+    let a = (c .before .before .before .before .before .before .before .before .before .before .args) in
+    let p = (c .before .before .before .before .before .before .before .before .before .before .pre) .0 in
+    let r = a .round .now in
+    let d = legIn (length r) (a .matrix .now) in
+    let list = listIn (a .k) (a .near .now) in
+    let t2 = (c .before .before .before .before .before .ahead) in
+    let d12 = (c .before .before .before .dist) in
+    let i = (c .before .thirds) .i in
+    let end : length (list (t2 .result .0)) ≤ i = omega (arith, length-list (a .near .now) (a .k) (length r) (t2 .result .0) (p .lists) (t2 .ensures .below), (c .thirds-test) .left) in
+    chosen-is (sym (done3 d list (a .fwd) r (a .t1 .0) (t2 .result .0) (d12 .result) i end) ∙ (c .before .thirds) .inv .finds) ((c .before .thirds) .inv .yet)
 
 returns-2 : tie.Need-returns-2 Inv-fifths μ-fifths Inv-sides μ-sides Inv-thirds μ-thirds
-returns-2 c = let a = (c .before .before .before .before .before .before .before .before .before .before .before .before .before .args) in let p = (c .before .before .before .before .before .before .before .before .before .before .before .before .before .pre) .0 in let r = a .round .now in let d = legIn (length r) (a .matrix .now) in let list = listIn (a .k) (a .near .now) in let hi : (c .before .before .before .before .thirds) .i < length (list ((c .before .before .before .before .before .before .before .before .ahead) .result .0)) = omega (arith, length-list (a .near .now) (a .k) (length r) ((c .before .before .before .before .before .before .before .before .ahead) .result .0) (p .lists) ((c .before .before .before .before .before .before .before .before .ahead) .ensures .below), (c .before .before .before .thirds-test) .taken) in chosen-is (sym (stop3 d list (a .fwd) r (a .t1 .0) ((c .before .before .before .before .before .before .before .before .ahead) .result .0) ((c .before .before .before .before .before .before .dist) .result) ((c .before .before .before .before .thirds) .i) ((c .before .before .listed) .result .0) ((c .before .dist2) .result) hi (cc ((c .before .before .listed) .ensures .is)) (cc ((c .before .dist2) .ensures .is)) ((c .if1) .taken)) ∙ (c .before .before .before .before .thirds) .inv .finds) ((c .before .before .before .before .thirds) .inv .yet)
+returns-2 c =
+    let a = (c .before .before .before .before .before .before .before .before .before .before .before .before .before .before .args) in
+    let p = (c .before .before .before .before .before .before .before .before .before .before .before .before .before .before .pre) .0 in
+    let r = a .round .now in
+    let d = legIn (length r) (a .matrix .now) in
+    let list = listIn (a .k) (a .near .now) in
+    let t2 = (c .before .before .before .before .before .before .before .before .before .ahead) in
+    let d12 = (c .before .before .before .before .before .before .before .dist) in
+    let i = (c .before .before .before .before .before .thirds) .i in
+    let t3 = (c .before .before .before .listed) in
+    let d23 = (c .before .before .dist2) in
+    let hi : i < length (list (t2 .result .0)) = omega (arith, length-list (a .near .now) (a .k) (length r) (t2 .result .0) (p .lists) (t2 .ensures .below), (c .before .before .before .before .thirds-test) .taken) in
+    let leg : d23 .result ≡ d (t2 .result .0) (t3 .result .0) = cc (d23 .ensures .is) in
+    let over : leb (d12 .result) (d23 .result) ≡ true = cc ((c .if1) .taken) in
+    chosen-is (sym (stop3 d list (a .fwd) r (a .t1 .0) (t2 .result .0) (d12 .result) i (t3 .result .0) (d23 .result) hi (cc (t3 .ensures .is)) leg over) ∙ (c .before .before .before .before .before .thirds) .inv .finds) ((c .before .before .before .before .before .thirds) .inv .yet)
 
 returns-3 : tie.Need-returns-3 Inv-fifths μ-fifths Inv-sides μ-sides Inv-thirds μ-thirds
-returns-3 c = let a = (c .before .before .before .before .before .before .before .before .before .before .before .before .before .before .before .before .before .before .before .before .before .before .args) in let p = (c .before .before .before .before .before .before .before .before .before .before .before .before .before .before .before .before .before .before .before .before .before .before .pre) .0 in let r = a .round .now in let d = legIn (length r) (a .matrix .now) in let list = listIn (a .k) (a .near .now) in chosen-is (sym ((c .before .before .try-two) .ensures .is) ∙ sym (hit4 d list (a .fwd) r (a .t1 .0) ((c .before .before .before .before .before .before .before .before .before .before .before .before .before .before .before .before .before .ahead) .result .0) ((c .before .before .before .before .before .before .before .before .before .before .before .listed) .result .0) ((c .before .before .before .before .before .before .before .before .before .before .before .before .before .before .before .dist) .result - (c .before .before .before .before .before .before .before .before .before .before .dist2) .result) ((c .before .before .before .before .before .before .sides) .side) ((c .before .before .before .before .before .before .before .before .before .before .before .before .before .before .before .dist) .result) ((c .before .before .before .before .before .before .before .before .before .before .before .before .before .thirds) .i + 1) _ ((c .before .before .before .before .beside) .result .0) ((c .before .before .before .dist3) .result) ((c .before .before .before .before .before .sides-test) .taken) ((c .before .before .before .before .beside) .ensures .is) (cc) (cc ((c .before .before .before .dist3) .ensures .is)) _ _ _ _ _ _ ((c .before .before .try-two) .ensures .is) ((c .if3) .taken)) ∙ (c .before .before .before .before .before .before .sides) .inv .finds) ((c .before .before .try-two) .ensures)
+returns-3 c =
+    let a = (c .before .before .before .before .before .before .before .before .before .before .before .before .before .before .before .before .before .before .before .before .before .before .args) in
+    let p = (c .before .before .before .before .before .before .before .before .before .before .before .before .before .before .before .before .before .before .before .before .before .before .pre) .0 in
+    let r = a .round .now in
+    let d = legIn (length r) (a .matrix .now) in
+    let list = listIn (a .k) (a .near .now) in
+    let t2 = (c .before .before .before .before .before .before .before .before .before .before .before .before .before .before .before .before .before .ahead) in
+    let d12 = (c .before .before .before .before .before .before .before .before .before .before .before .before .before .before .before .dist) in
+    let i = (c .before .before .before .before .before .before .before .before .before .before .before .before .before .thirds) .i in
+    let t3 = (c .before .before .before .before .before .before .before .before .before .before .before .listed) in
+    let d23 = (c .before .before .before .before .before .before .before .before .before .before .dist2) in
+    let s = (c .before .before .before .before .before .before .sides) .side in
+    let t4 = (c .before .before .before .before .beside) in
+    let d34 = (c .before .before .before .dist3) in
+    let leg : d34 .result ≡ d (t3 .result .0) (t4 .result .0) = cc (d34 .ensures .is) in
+    chosen-is (sym ((c .before .before .try-two) .ensures .is) ∙ sym (hit4 d list (a .fwd) r (a .t1 .0) (t2 .result .0) (t3 .result .0) (d12 .result - d23 .result) s (d12 .result) (i + 1) _ (t4 .result .0) (d34 .result) ((c .before .before .before .before .before .sides-test) .taken) (t4 .ensures .is) (cc) leg _ _ _ _ _ _ ((c .before .before .try-two) .ensures .is) ((c .if3) .taken)) ∙ (c .before .before .before .before .before .before .sides) .inv .finds) ((c .before .before .try-two) .ensures)
 
 returns-4 : tie.Need-returns-4 Inv-fifths μ-fifths Inv-sides μ-sides Inv-thirds μ-thirds
-returns-4 c = let a = (c .before .before .before .before .before .before .before .before .before .before .before .before .before .before .before .before .before .before .before .before .before .before .before .before .before .before .before .before .before .before .before .before .before .before .args) in let p = (c .before .before .before .before .before .before .before .before .before .before .before .before .before .before .before .before .before .before .before .before .before .before .before .before .before .before .before .before .before .before .before .before .before .before .pre) .0 in let r = a .round .now in let d = legIn (length r) (a .matrix .now) in let list = listIn (a .k) (a .near .now) in let hj : (c .before .before .before .before .before .before .before .before .before .fifths) .j < length (list ((c .before .before .before .before .before .before .before .before .before .before .before .before .before .before .before .before .beside) .result .0)) = omega (arith, length-list (a .near .now) (a .k) (length r) ((c .before .before .before .before .before .before .before .before .before .before .before .before .before .before .before .before .beside) .result .0) (p .lists) ((c .before .before .before .before .before .before .before .before .before .before .before .before .before .before .before .before .beside) .ensures .below), (c .before .before .before .before .before .before .before .before .fifths-test) .taken) in chosen-is (sym ((c .before .before .try-fifth) .ensures .is) ∙ sym (hit5 d list (a .fwd) r (a .t1 .0) ((c .before .before .before .before .before .before .before .before .before .before .before .before .before .before .before .before .before .before .before .before .before .before .before .before .before .before .before .before .before .ahead) .result .0) (eqb ((c .before .before .before .before .before .before .before .before .before .before .before .before .before .before .before .before .before .before .sides) .side) 1) ((c .before .before .before .before .before .before .before .before .before .before .before .before .before .before .before .before .before .before .before .before .before .before .before .listed) .result .0) ((c .before .before .before .before .before .before .before .before .before .before .before .before .before .before .before .before .beside) .result .0) (((c .before .before .before .before .before .before .before .before .before .before .before .before .before .before .before .before .before .before .before .before .before .before .before .before .before .before .before .dist) .result - (c .before .before .before .before .before .before .before .before .before .before .before .before .before .before .before .before .before .before .before .before .before .before .dist2) .result) + (c .before .before .before .before .before .before .before .before .before .before .before .before .before .before .before .dist3) .result) ((c .before .before .before .before .before .before .before .before .before .fifths) .j) ((c .before .before .before .before .before .before .before .before .before .before .before .before .before .before .before .before .before .before .before .before .before .before .before .before .before .before .before .dist) .result - (c .before .before .before .before .before .before .before .before .before .before .before .before .before .before .before .before .before .before .before .before .before .before .dist2) .result) ((c .before .before .before .before .before .before .before .before .before .before .before .before .before .before .before .before .before .before .sides) .side + 1) ((c .before .before .before .before .before .before .before .before .before .before .before .before .before .before .before .before .before .before .before .before .before .before .before .before .before .before .before .dist) .result) ((c .before .before .before .before .before .before .before .before .before .before .before .before .before .before .before .before .before .before .before .before .before .before .before .before .before .thirds) .i + 1) ((c .before .before .before .before .before .before .before .listed2) .result .0) ((c .before .before .before .before .before .before .dist4) .result) hj (cc ((c .before .before .before .before .before .before .before .listed2) .ensures .is)) (cc ((c .before .before .before .before .before .before .dist4) .ensures .is)) ((c .before .before .before .before .before .if4) .left) ((c .before .before .before .before .any-of) .result) ((c .before .before .before .before .before .before .before .before .before .before .before .succ) .result .0) ((c .before .before .before .before .before .before .before .before .before .before .pred) .result .0) (cc ((c .before .before .before .before .before .before .before .before .before .before .before .succ) .ensures .is)) (cc ((c .before .before .before .before .before .before .before .before .before .before .pred) .ensures .is)) (cc ((c .before .before .before .before .any-of) .ensures)) ((c .before .before .before .if5) .left) _ _ _ _ _ _ ((c .before .before .try-fifth) .ensures .is) ((c .if6) .taken)) ∙ (c .before .before .before .before .before .before .before .before .before .fifths) .inv .finds) ((c .before .before .try-fifth) .ensures)
+returns-4 c =
+    let a = (c .before .before .before .before .before .before .before .before .before .before .before .before .before .before .before .before .before .before .before .before .before .before .before .before .before .before .before .before .before .before .before .before .before .before .args) in
+    let p = (c .before .before .before .before .before .before .before .before .before .before .before .before .before .before .before .before .before .before .before .before .before .before .before .before .before .before .before .before .before .before .before .before .before .before .pre) .0 in
+    let r = a .round .now in
+    let d = legIn (length r) (a .matrix .now) in
+    let list = listIn (a .k) (a .near .now) in
+    let t2 = (c .before .before .before .before .before .before .before .before .before .before .before .before .before .before .before .before .before .before .before .before .before .before .before .before .before .before .before .before .before .ahead) in
+    let d12 = (c .before .before .before .before .before .before .before .before .before .before .before .before .before .before .before .before .before .before .before .before .before .before .before .before .before .before .before .dist) in
+    let i = (c .before .before .before .before .before .before .before .before .before .before .before .before .before .before .before .before .before .before .before .before .before .before .before .before .before .thirds) .i in
+    let t3 = (c .before .before .before .before .before .before .before .before .before .before .before .before .before .before .before .before .before .before .before .before .before .before .before .listed) in
+    let d23 = (c .before .before .before .before .before .before .before .before .before .before .before .before .before .before .before .before .before .before .before .before .before .before .dist2) in
+    let s = (c .before .before .before .before .before .before .before .before .before .before .before .before .before .before .before .before .before .before .sides) .side in
+    let t4 = (c .before .before .before .before .before .before .before .before .before .before .before .before .before .before .before .before .beside) in
+    let d34 = (c .before .before .before .before .before .before .before .before .before .before .before .before .before .before .before .dist3) in
+    let j = (c .before .before .before .before .before .before .before .before .before .fifths) .j in
+    let t5 = (c .before .before .before .before .before .before .before .listed2) in
+    let d45 = (c .before .before .before .before .before .before .dist4) in
+    let hj : j < length (list (t4 .result .0)) = omega (arith, length-list (a .near .now) (a .k) (length r) (t4 .result .0) (p .lists) (t4 .ensures .below), (c .before .before .before .before .before .before .before .before .fifths-test) .taken) in
+    let leg : d45 .result ≡ d (t4 .result .0) (t5 .result .0) = cc (d45 .ensures .is) in
+    let on : leb ((d12 .result - d23 .result) + d34 .result) (d45 .result) ≡ false = cc ((c .before .before .before .before .if4) .left) in
+    let free : (c .before .before .before .before .before .any-of) .result ≡ false = cc ((c .before .before .before .if5) .left) in
+    chosen-is (sym ((c .before .before .try-fifth) .ensures .is) ∙ sym (hit5 d list (a .fwd) r (a .t1 .0) (t2 .result .0) (eqb s 1) (t3 .result .0) (t4 .result .0) ((d12 .result - d23 .result) + d34 .result) j (d12 .result - d23 .result) (s + 1) (d12 .result) (i + 1) (t5 .result .0) (d45 .result) hj (cc (t5 .ensures .is)) leg on ((c .before .before .before .before .before .any-of) .result) ((c .before .before .before .before .before .before .before .before .before .before .before .succ) .result .0) ((c .before .before .before .before .before .before .before .before .before .before .pred) .result .0) ((c .before .before .before .before .before .before .before .before .before .before .before .succ) .ensures .is) ((c .before .before .before .before .before .before .before .before .before .before .pred) .ensures .is) ((c .before .before .before .before .before .any-of) .ensures) free _ _ _ _ _ _ ((c .before .before .try-fifth) .ensures .is) ((c .if6) .taken)) ∙ (c .before .before .before .before .before .before .before .before .before .fifths) .inv .finds) ((c .before .before .try-fifth) .ensures)
 
 pub find-move-spec : {M : Type 1} → statement M
 find-move-spec =

@@ -1,3 +1,4 @@
+use mathlib.Core.Path.{_≡_}
 use native.Mathlib.Omega.{arith}
 use lib.ListN.{length}
 use Rattle.rules.specs.Plan.{legIn}
@@ -23,13 +24,31 @@ closed-requires : tie.Need-closed-requires
 closed-requires c κs = search needs
 
 returns : tie.Need-returns
-returns c = let a = (c .before .before .before .before .before .before .before .before .args) in let p = (c .before .before .before .before .before .before .before .before .pre) .1 .0 in record { is = before-gains (legIn (length (a .round .now)) (a .matrix .now)) (a .fwd) (a .round .now) (a .t1 .0) (a .t2 .0) (a .t3 .0) (a .t4 .0) (a .t5 .0) (a .g3) ((c .before .before .before .before .between-dir) .result) ((c .before .before .before .beside) .result .0) ((c .before .before .dist) .result) ((c .before .closed) .result) ((c .before .before .before .before .between-dir) .ensures) ((c .before .before .before .beside) .ensures .is) ((c .before .before .dist) .ensures .is) ((c .before .closed) .ensures) ((c .if1) .taken); low3 = p .low3; low4 = p .low4; low5 = p .low5; low6 = (c .before .before .before .beside) .ensures .below }
+returns c =
+    let a = (c .before .before .before .before .before .before .before .before .args) in
+    let p = (c .before .before .before .before .before .before .before .before .pre) .1 .0 in
+    let r = a .round .now in
+    let d = legIn (length r) (a .matrix .now) in
+    let i = (c .before .before .before .before .between-dir) in
+    let b = (c .before .before .before .beside) in
+    let g = (c .before .closed) in
+    let leg : (c .before .before .dist) .result ≡ d (a .t5 .0) (b .result .0) = cc ((c .before .before .dist) .ensures .is) in
+    record { is = before-gains d (a .fwd) r (a .t1 .0) (a .t2 .0) (a .t3 .0) (a .t4 .0) (a .t5 .0) (a .g3) (i .result) (b .result .0) ((c .before .before .dist) .result) (g .result) (i .ensures) (b .ensures .is) leg (g .ensures) ((c .if1) .taken); low3 = p .low3; low4 = p .low4; low5 = p .low5; low6 = b .ensures .below }
 
 no-move-requires : tie.Need-no-move-requires
 no-move-requires c κs = search needs
 
 returns-2 : tie.Need-returns-2
-returns-2 c = let a = (c .before .before .before .before .before .before .before .before .before .args) in chosen-is (before-fails (legIn (length (a .round .now)) (a .matrix .now)) (a .fwd) (a .round .now) (a .t1 .0) (a .t2 .0) (a .t3 .0) (a .t4 .0) (a .t5 .0) (a .g3) ((c .before .before .before .before .before .between-dir) .result) ((c .before .before .before .before .beside) .result .0) ((c .before .before .before .dist) .result) ((c .before .before .closed) .result) ((c .before .before .before .before .before .between-dir) .ensures) ((c .before .before .before .before .beside) .ensures .is) ((c .before .before .before .dist) .ensures .is) ((c .before .before .closed) .ensures) ((c .before .if1) .left)) ((c .no-move) .ensures (length (a .round .now)) (omega (arith, (c .before .before .before .before .before .before .before .before .before .pre) .1 .0 .low1)))
+returns-2 c =
+    let a = (c .before .before .before .before .before .before .before .before .before .args) in
+    let p = (c .before .before .before .before .before .before .before .before .before .pre) .1 .0 in
+    let r = a .round .now in
+    let d = legIn (length r) (a .matrix .now) in
+    let i = (c .before .before .before .before .before .between-dir) in
+    let b = (c .before .before .before .before .beside) in
+    let g = (c .before .before .closed) in
+    let leg : (c .before .before .before .dist) .result ≡ d (a .t5 .0) (b .result .0) = cc ((c .before .before .before .dist) .ensures .is) in
+    chosen-is (before-fails d (a .fwd) r (a .t1 .0) (a .t2 .0) (a .t3 .0) (a .t4 .0) (a .t5 .0) (a .g3) (i .result) (b .result .0) ((c .before .before .before .dist) .result) (g .result) (i .ensures) (b .ensures .is) leg (g .ensures) ((c .before .if1) .left)) ((c .no-move) .ensures (length r) (omega (arith, p .low1)))
 
 pub try-before-spec : {M : Type 1} → statement M
 try-before-spec =

@@ -1,7 +1,9 @@
-use Prim.Native.Nat.{_+_, _*_, _<_}
+use mathlib.Core.Path.{ap, _∙_}
+use Rattle.rules.specs.Lists.{at}
+use Prim.Native.Nat.{ℕ, _+_, _*_, _<_}
 use native.Mathlib.Omega.{arith}
 use Rattle.laws.proofs.CellLaws.{row-within, cells-few}
-use Rattle.moves.proofs.EntryLaws.{entry-at}
+use Rattle.laws.proofs.EntryLaws.{entry-at}
 use borrow.Author.Needs.{needs}
 use Rattle.moves.proofs.entries.listed.Statement.{statement}
 use Rattle.moves.proofs.entries.listed.Tie as tie
@@ -22,7 +24,15 @@ shared-slice-read-t10 : tie.Need-shared-slice-read-t10
 shared-slice-read-t10 c = let row : (c .before .wide) .result < (c .before .before .before .args) .n = omega (arith, (c .before .wide) .ensures, (c .before .before .before .pre) .1 .1 .0) in omega (arith, (c .before .before .before .pre) .1 .0 .cells, (c .before .before .before .pre) .1 .1 .1, row-within ((c .before .before .before .args) .n) ((c .before .before .before .args) .count) ((c .before .wide) .result) row)
 
 returns : tie.Need-returns
-returns c = let row : (c .before .wide) .result < (c .before .before .before .args) .n = omega (arith, (c .before .wide) .ensures, (c .before .before .before .pre) .1 .1 .0) in record { is = entry-at ((c .before .before .before .args) .entries .now) ((c .before .before .before .args) .count) ((c .before .before .before .args) .v .0) ((c .before .wide) .result) ((c .before .before .before .args) .i) ((c .before .wide) .ensures) ((c .before .before .before .pre) .1 .1 .1); below = (c .before .before .before .pre) .1 .0 .stops ((c .before .wide) .result * (c .before .before .before .args) .count + (c .before .before .before .args) .i) (omega (arith, (c .before .before .before .pre) .1 .0 .cells, (c .before .before .before .pre) .1 .1 .1, row-within ((c .before .before .before .args) .n) ((c .before .before .before .args) .count) ((c .before .wide) .result) row)) }
+returns c =
+    let a = c .before .before .before .args in
+    let p = c .before .before .before .pre in
+    let w = c .before .wide in
+    let row : w .result < a .n = omega (arith, w .ensures, p .1 .1 .0) in
+    record {
+      is = ap (λ (x : ℕ). at (a .entries .now) (x * a .count + a .i)) (w .ensures) ∙ entry-at (a .entries .now) (a .count) (a .v .0) (a .i) (p .1 .1 .1);
+      below = p .1 .0 .stops (w .result * a .count + a .i) (omega (arith, p .1 .0 .cells, p .1 .1 .1, row-within (a .n) (a .count) (w .result) row));
+    }
 
 pub listed-spec : {M : Type 1} → statement M
 listed-spec = tie.close (tie.spec wide-requires mul-at add-at mul-t7 shared-slice-read-t10 returns)

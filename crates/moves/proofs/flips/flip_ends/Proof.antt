@@ -2,7 +2,7 @@ use mathlib.Core.Path.{_≡_, ap, _∙_}
 use mathlib.Core.Bool.{true, false}
 use lib.Dec.{eqb}
 use Rattle.rules.specs.Ring.{place, succ as succOf}
-use Rattle.moves.proofs.MoveLaws.{flip-ahead, flip-back}
+use Rattle.laws.proofs.MoveWayLaws.{flip-ahead, flip-back}
 use borrow.Author.Needs.{needs}
 use Rattle.moves.proofs.flips.flip_ends.Statement.{statement}
 use Rattle.moves.proofs.flips.flip_ends.Tie as tie

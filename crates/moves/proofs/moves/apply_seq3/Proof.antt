@@ -22,7 +22,7 @@ returns : tie.Need-returns
 returns c = let a = (c .before .before .before .before .before .before .before .before .before .before .before .before .before .before .before .before .before .before .args) in made-is (seq-two (a .fwd) (a .mv .case) (a .t1 .0) (a .t2 .0) (a .mv .t3 .0) (a .mv .t4 .0) (a .mv .t5 .0) (a .mv .t6 .0) (trackOf (a .round .now) (a .journal .now) (a .held)) ((c .before .before .before .before .before .before .before .before .before .before .if1) .taken)) (omega arith) ((c .before .before .before .before .before .before .flip) .ensures)
 
 flip-twice-requires : tie.Need-flip-twice-requires
-flip-twice-requires c κs = let s = (c .before .before .before .before .before .before .before .before .before .before .before .before .pre) .1 .0 in ((c .before .before .before .before .before .before .before .before .before .before .before .before .pre) .0, (record { low1 = s .low1; low2 = s .low2; low3 = s .low3; low4 = s .low1; low5 = s .low4; low6 = s .low5 }, (c .before .before .before .before .before .before .before .before .before .before .before .before .pre) .1 .1 .1))
+flip-twice-requires c κs = let s = (c .before .before .before .before .before .before .before .before .before .before .before .before .pre) .1 .0 in ((c .before .before .before .before .before .before .before .before .before .before .before .before .pre) .0, (record { low1 = omega (arith, s .low1, s .low2, s .low3, s .low4, s .low5, s .low6); low2 = omega (arith, s .low1, s .low2, s .low3, s .low4, s .low5, s .low6); low3 = omega (arith, s .low1, s .low2, s .low3, s .low4, s .low5, s .low6); low4 = omega (arith, s .low1, s .low2, s .low3, s .low4, s .low5, s .low6); low5 = omega (arith, s .low1, s .low2, s .low3, s .low4, s .low5, s .low6); low6 = omega (arith, s .low1, s .low2, s .low3, s .low4, s .low5, s .low6) }, (c .before .before .before .before .before .before .before .before .before .before .before .before .pre) .1 .1 .1))
 
 same-length-4 : tie.Need-same-length-4
 same-length-4 c = search needs
@@ -37,7 +37,7 @@ returns-2 : tie.Need-returns-2
 returns-2 c = let a = (c .before .before .before .before .before .before .before .before .before .before .before .before .before .before .before .before .before .before .before .args) in made-is (seq-flips (a .fwd) (a .mv .case) (a .t1 .0) (a .t2 .0) (a .mv .t3 .0) (a .mv .t4 .0) (a .mv .t5 .0) (a .mv .t6 .0) (trackOf (a .round .now) (a .journal .now) (a .held)) ((c .before .before .before .before .before .before .before .before .before .before .if2) .taken)) (omega arith) ((c .before .before .before .before .before .before .flip-twice) .ensures)
 
 or-move-requires : tie.Need-or-move-requires
-or-move-requires c κs = let s = (c .before .before .before .before .before .before .before .before .before .before .before .before .before .before .pre) .1 .0 in ((c .before .before .before .before .before .before .before .before .before .before .before .before .before .before .pre) .0, (record { low1 = s .low1; low2 = s .low2; low3 = s .low5; low4 = s .low6; low5 = s .low3; low6 = s .low4 }, ((c .before .before .before .before .before .before .before .before .before .before .before .before .before .before .pre) .1 .1 .0, record { good = (c .before .before .before .before .before .before .before .before .before .before .before .before .before .before .pre) .1 .1 .1 .good; room = omega (arith, (c .before .before .before .before .before .before .before .before .before .before .before .before .before .before .pre) .1 .1 .1 .room) })))
+or-move-requires c κs = let s = (c .before .before .before .before .before .before .before .before .before .before .before .before .before .before .pre) .1 .0 in ((c .before .before .before .before .before .before .before .before .before .before .before .before .before .before .pre) .0, (record { low1 = omega (arith, s .low1, s .low2, s .low3, s .low4, s .low5, s .low6); low2 = omega (arith, s .low1, s .low2, s .low3, s .low4, s .low5, s .low6); low3 = omega (arith, s .low1, s .low2, s .low3, s .low4, s .low5, s .low6); low4 = omega (arith, s .low1, s .low2, s .low3, s .low4, s .low5, s .low6); low5 = omega (arith, s .low1, s .low2, s .low3, s .low4, s .low5, s .low6); low6 = omega (arith, s .low1, s .low2, s .low3, s .low4, s .low5, s .low6) }, ((c .before .before .before .before .before .before .before .before .before .before .before .before .before .before .pre) .1 .1 .0, record { good = (c .before .before .before .before .before .before .before .before .before .before .before .before .before .before .pre) .1 .1 .1 .good; room = omega (arith, (c .before .before .before .before .before .before .before .before .before .before .before .before .before .before .pre) .1 .1 .1 .room) })))
 
 same-length-7 : tie.Need-same-length-7
 same-length-7 c = search needs
@@ -55,7 +55,7 @@ returns-3 : tie.Need-returns-3
 returns-3 c = let a = (c .before .before .before .before .before .before .before .before .before .before .before .before .before .before .before .before .before .before .before .before .before .before .before .args) in made-is (seq-segment (a .fwd) (a .mv .case) (a .t1 .0) (a .t2 .0) (a .mv .t3 .0) (a .mv .t4 .0) (a .mv .t5 .0) (a .mv .t6 .0) (trackOf (a .round .now) (a .journal .now) (a .held)) ((c .before .before .before .before .before .before .before .before .before .before .before .before .before .if3) .taken)) (omega arith) ((c .before .before .before .before .before .before .before .before .or-move) .ensures)
 
 flip-twice-requires-2 : tie.Need-flip-twice-requires-2
-flip-twice-requires-2 c κs = let s = (c .before .before .before .before .before .before .before .before .before .before .before .before .before .pre) .1 .0 in ((c .before .before .before .before .before .before .before .before .before .before .before .before .before .pre) .0, (record { low1 = s .low1; low2 = s .low2; low3 = s .low5; low4 = s .low2; low5 = s .low5; low6 = s .low4 }, (c .before .before .before .before .before .before .before .before .before .before .before .before .before .pre) .1 .1 .1))
+flip-twice-requires-2 c κs = let s = (c .before .before .before .before .before .before .before .before .before .before .before .before .before .pre) .1 .0 in ((c .before .before .before .before .before .before .before .before .before .before .before .before .before .pre) .0, (record { low1 = omega (arith, s .low1, s .low2, s .low3, s .low4, s .low5, s .low6); low2 = omega (arith, s .low1, s .low2, s .low3, s .low4, s .low5, s .low6); low3 = omega (arith, s .low1, s .low2, s .low3, s .low4, s .low5, s .low6); low4 = omega (arith, s .low1, s .low2, s .low3, s .low4, s .low5, s .low6); low5 = omega (arith, s .low1, s .low2, s .low3, s .low4, s .low5, s .low6); low6 = omega (arith, s .low1, s .low2, s .low3, s .low4, s .low5, s .low6) }, (c .before .before .before .before .before .before .before .before .before .before .before .before .before .pre) .1 .1 .1))
 
 same-length-11 : tie.Need-same-length-11
 same-length-11 c = search needs
