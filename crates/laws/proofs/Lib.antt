@@ -4,6 +4,7 @@ pub mod CheckLaws
 pub mod ChoiceLaws
 pub mod DescendLaws
 pub mod DrawLaws
+pub mod EntryLaws
 pub mod EvenLaws
 pub mod EveryLaws
 pub mod ExactLaws
@@ -16,9 +17,11 @@ pub mod KickLaws
 pub mod KickTimeLaws
 pub mod KickedLaws
 pub mod LandLaws
+pub mod LeftLaws
 pub mod Lk3Laws
 pub mod LkLaws
 pub mod LoneLaws
+pub mod MoveWayLaws
 pub mod NearestLaws
 pub mod OnwardLaws
 pub mod OrMoveLaws

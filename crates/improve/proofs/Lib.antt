@@ -1,0 +1,2 @@
+pub mod ImproveLaws
+pub mod StepLaws

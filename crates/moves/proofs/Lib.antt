@@ -1,0 +1,3 @@
+pub mod CutLaws
+pub mod MadeLaws
+pub mod MoveLaws
