@@ -1,0 +1,4 @@
+mod DrawingLaws
+mod EndsLaws
+mod KickingLaws
+mod ShuffleLaws
