@@ -1,4 +1,6 @@
 mod DrawingLaws
 mod EndsLaws
+mod ExchangeLaws
+mod GlobalLaws
 mod KickingLaws
 mod ShuffleLaws

@@ -7,6 +7,7 @@ use Rattle.rules.specs.Words.{Place}
 use Rattle.rules.specs.Lists.{if_then_else_}
 use Rattle.rules.specs.Draws.{Span, _to_, Drawn, drawn, moved, draws}
 use Rattle.rules.specs.Kicks.{longest, spans}
+use Rattle.kicks.specs.Exchanging.{Segments}
 
 -- r is the longest segment of n stops: three of them leave a stop over
 pub record Longest (n r : ℕ) : Type 0 where
@@ -25,10 +26,7 @@ pub record CutDrawn (n kind x new : ℕ) (start : Place) (a b c : ℕ) : Type 0 
   pub is : draws (spans n kind) x ≡ record { values = if eqb kind 0 then (a ∷ b ∷ c ∷ start ∷ []) else (a ∷ c ∷ start ∷ []); state = new }
   pub middle : kind ≡ 1 → b ≡ 0
   pub some : 0 < x → 0 < new
-  pub below : start < n
-  pub first : 0 < a
-  pub last : 0 < c
-  pub fits : a + b + c < n
+  pub segments : Segments n start a b c
 
 -- three lengths drawn for a double bridge: B and C follow A, and D is the rest
 pub record BridgeDrawn (n x new : ℕ) (start : Place) (a b c : ℕ) : Type 0 where
@@ -36,6 +34,5 @@ pub record BridgeDrawn (n x new : ℕ) (start : Place) (a b c : ℕ) : Type 0 wh
   pub rest : c ≡ n - (start + a + b)
   pub some : 0 < x → 0 < new
   pub before : 0 < start
-  pub first : 0 < a
   pub middle : 0 < b
-  pub fits : start + a + b < n
+  pub segments : Segments n start a b c

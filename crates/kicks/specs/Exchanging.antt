@@ -10,6 +10,13 @@ use Rattle.rules.specs.Journal.{Track}
 use Rattle.rules.specs.Contracts.{Is}
 use Rattle.rules.specs.Kicks.{Kicked, segmentKick}
 
+-- segments of a, b and c of n places from `start` on, X and Z not empty, and a place over
+pub record Segments (n : ℕ) (start : Place) (a b c : ℕ) : Type 0 where
+  pub below : start < n
+  pub first : 0 < a
+  pub last : 0 < c
+  pub fits : a + b + c < n
+
 -- the stop k steps after place `start`
 unfoldable pub stopOn : Round → Place → ℕ → Stop
 stopOn r start k = at r ((start + k) % length r)

@@ -1,3 +1,3 @@
-pub mod Drawing
 pub mod Exchanging
+pub mod Drawing
 pub mod Kicking

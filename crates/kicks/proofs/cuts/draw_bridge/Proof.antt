@@ -60,9 +60,8 @@ returns c =
       rest = search needs;
       some = λ p. (c .before .before .before .draw3) .ensures .some ((c .before .before .before .before .before .draw2) .ensures .some ((c .before .before .before .before .before .before .before .draw) .ensures .some p));
       before = search needs;
-      first = search needs;
       middle = search needs;
-      fits = search needs;
+      segments = search needs;
     }
 
 pub draw-bridge-spec : {M : Type 1} → statement M

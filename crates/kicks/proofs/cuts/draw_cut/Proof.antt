@@ -77,10 +77,7 @@ returns c =
       is = cut-drawn n kind x x1 x2 x3 x4 _ _ _ _ ((c .before .before .before .before .before .before .before .before .before .before .before .before .before .pre) .1 .1 .1) ((c .before .before .before .before .before .before .before .before .before .before .before .before .before .pre) .1 .1 .0) ((c .before .before .before .before .before .before .before .before .before .before .draw) .ensures .state) a ((c .before .before .before .before .before .before .before .before .draw-middle) .ensures .state) b ((c .before .before .before .before .before .before .draw2) .ensures .state) d ((c .before .before .before .draw3) .ensures .state) s;
       middle = λ e. rw e at b;
       some = λ p. (c .before .before .before .draw3) .ensures .some ((c .before .before .before .before .before .before .draw2) .ensures .some ((c .before .before .before .before .before .before .before .before .draw-middle) .ensures .some ((c .before .before .before .before .before .before .before .before .before .before .draw) .ensures .some p)));
-      below = search needs;
-      first = search needs;
-      last = search needs;
-      fits = search needs;
+      segments = search needs;
     }
 
 pub draw-cut-spec : {M : Type 1} → statement M

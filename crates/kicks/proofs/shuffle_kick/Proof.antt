@@ -1,0 +1,69 @@
+use borrow.Author.Needs.{needs}
+use Rattle.kicks.proofs.shuffle_kick.Statement.{statement}
+use Rattle.kicks.proofs.shuffle_kick.Tie as tie
+use Rattle.kicks.proofs.shuffle_kick.Reads as reads
+use Rattle.kicks.proofs.shuffle_kick.Lts as lts
+use Rattle.kicks.proofs.shuffles.shuffle.Reads as shuffle-reads
+use Rattle.queue.proofs.activate_all.Reads as activate-all-reads
+use Rattle.ring.proofs.places.narrow.Reads as narrow-reads
+use Rattle.ring.proofs.times.cost.Reads as cost-reads
+
+-- src/lib.rt:94:9
+cost-requires : tie.Need-cost-requires
+cost-requires c κs = search needs
+
+-- src/lib.rt:95:9
+narrow-requires : tie.Need-narrow-requires
+narrow-requires c κs = search needs
+
+-- src/lib.rt:96:9
+shuffle-requires : tie.Need-shuffle-requires
+shuffle-requires c κs = ?
+
+-- src/lib.rt:97:9
+cost-requires-2 : tie.Need-cost-requires-2
+cost-requires-2 c κs = ?
+
+-- src/lib.rt:98:9
+activate-all-requires : tie.Need-activate-all-requires
+activate-all-requires c κs = ?
+
+-- src/lib.rt:79:1
+same-length : tie.Need-same-length
+same-length c = search needs
+
+-- src/lib.rt:79:1
+same-length-2 : tie.Need-same-length-2
+same-length-2 c = search needs
+
+-- src/lib.rt:79:1
+same-length-3 : tie.Need-same-length-3
+same-length-3 c = search needs
+
+-- src/lib.rt:79:1
+same-length-4 : tie.Need-same-length-4
+same-length-4 c = search needs
+
+-- src/lib.rt:79:1
+same-length-5 : tie.Need-same-length-5
+same-length-5 c = search needs
+
+-- src/lib.rt:79:1
+returns : tie.Need-returns
+returns c = ?
+
+pub shuffle-kick-spec : {M : Type 1} → statement M
+shuffle-kick-spec =
+    tie.close
+    (tie.spec
+    cost-requires
+    narrow-requires
+    shuffle-requires
+    cost-requires-2
+    activate-all-requires
+    same-length
+    same-length-2
+    same-length-3
+    same-length-4
+    same-length-5
+    returns)
