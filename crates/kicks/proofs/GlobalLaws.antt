@@ -66,6 +66,15 @@ spansBy n kind = elim kind as (λ k. List Span) [
   | suc k ↦ if eqb k 0 then ((1 to longest n) ∷ (1 to longest n) ∷ (0 to (n - 1)) ∷ []) else globalSpans n
 ]
 
+-- a kind that stays is 0 or 1
+pub kind-stays : (n kind : ℕ) → kind ≤ 2 → (kindAt n kind ≡ 2 → ⊥) → (kind ≤ 1) × (kindAt n kind ≡ kind)
+unfolding kindAt
+kind-stays n kind h two = go (ltb (longest n) 2) two
+  where
+    go : (l : Bool) → ((if l then 2 else kind) ≡ 2 → ⊥) → (kind ≤ 1) × ((if l then 2 else kind) ≡ kind)
+    go true f = absurd (f refl)
+    go false f = (omega arith, refl)
+
 pub kick-global : (d : Legs) (kind x : ℕ) (t : Track) → kindAt (length t.round) kind ≡ 2 → kick d kind x t ≡ globalDrawn d x t
 unfolding kick globalDrawn kicked spans
 kick-global d kind x t e = ap (λ (k : ℕ). record { made = kickedBy d (draws (spansBy (length t.round) k) x .values) t k; draw = draws (spansBy (length t.round) k) x .state }) e

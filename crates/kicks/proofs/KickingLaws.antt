@@ -7,14 +7,14 @@ use lib.ListN.{length}
 use Rattle.rules.specs.Words.{Stop, Place, Round, Time}
 use Rattle.rules.specs.Queue.{pushAll, waiting}
 use Rattle.rules.specs.Journal.{Track}
-use Rattle.rules.specs.Kicks.{Kicked, Kick, andThen}
+use Rattle.rules.specs.Kicks.{Kicked, andThen}
 use Rattle.rules.specs.Contracts.{Tied}
 use Rattle.laws.proofs.QueueLaws.{pushAll-join}
 use Rattle.ring.specs.Legs.{IsTime, Stops}
-use Rattle.journal.specs.Journalled.{Moved}
+use Rattle.journal.specs.Journalled.{Journalled, Moved}
 use Rattle.journal.proofs.GrewLaws.{grew-grew}
 use Rattle.queue.specs.Lines.{Waits}
-use Rattle.kicks.specs.Kicking.{Tracked, Made, Kicks}
+use Rattle.kicks.specs.Kicking.{Ready, Tracked, Made}
 
 -- the stops of a round
 pub tied-stops : {r : Round} {places : List Place} (n : ℕ) → length r ≡ n → Tied r places → Stops r n
@@ -28,6 +28,28 @@ module _ (q l : List Stop) {head : Place} {queue flags : List ℕ} {head′ : Pl
   -- more behind them
   pub waits-more : (m : List Stop) {queue′ flags′ : List ℕ} {head″ : Place} {count′ : ℕ} → Waits (pushAll (waiting queue head′ count) m) head′ queue′ flags′ head″ count′ → Waits (pushAll q (l ++ m)) head queue′ flags′ head″ count′
   waits-more m v = record { is = v .is ∙ ap (λ (x : List Stop). pushAll x m) (w .is) ∙ sym (pushAll-join q l m); head-is = v .head-is ∙ w .head-is; line = v .line }
+
+-- ---- memory to work in
+pub journalled-fewer : {n held : ℕ} {journal : List ℕ} {free : ℕ} (less : ℕ) → less ≤ free → Journalled n journal held free → Journalled n journal held less
+journalled-fewer less h j = record { good = j .good; room = omega (arith, j .room) }
+
+module _ {matrix : List Time} {round : Round} {places : List Place} {journal : List ℕ} {held free : ℕ} {queue flags : List ℕ} {head : Place} {count : ℕ} (g : Ready matrix round places journal held free queue flags head count) where
+  pub ready-fewer : (less : ℕ) → less ≤ free → Ready matrix round places journal held less queue flags head count
+  ready-fewer less h = record { two = g .two; tied = g .tied; square = g .square; journalled = journalled-fewer less h (g .journalled); long = g .long; line = g .line }
+
+  -- after a kick there is that much less room
+  pub ready-after : {k : Kicked} {most legs : ℕ} {q : List Stop} {at : Place} {round′ : Round} {places′ : List Place} {journal′ : List ℕ} {held′ : ℕ} {queue′ flags′ : List ℕ} {head′ : Place} {count′ added removed : ℕ} (less : ℕ)
+      → Made k most legs q at journal held round′ places′ journal′ held′ queue′ flags′ head′ count′ added removed → most + less ≤ free
+      → length round′ ≡ length round → length journal′ ≡ length journal → length queue′ ≡ length queue
+      → Ready matrix round′ places′ journal′ held′ less queue′ flags′ head′ count′
+  ready-after less m h er ej eq = record {
+    two = omega (arith, g .two);
+    tied = m .moved .tied;
+    square = rw er (g .square);
+    journalled = record { good = m .moved .good; room = omega (arith, g .journalled .room, m .moved .high) };
+    long = omega (arith, g .long);
+    line = m .waits .line;
+  }
 
 -- ---- entries that are journalled
 module _ {t : Track} {journal : List ℕ} {held : ℕ} {round : Round} {places : List Place} {journal′ : List ℕ} {held′ : ℕ} where

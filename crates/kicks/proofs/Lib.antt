@@ -3,4 +3,5 @@ mod EndsLaws
 mod ExchangeLaws
 mod GlobalLaws
 mod KickingLaws
+mod PartLaws
 mod ShuffleLaws

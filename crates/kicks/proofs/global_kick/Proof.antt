@@ -1,3 +1,9 @@
+use Prim.Native.Nat.{_≤_, _<_}
+use native.Mathlib.Omega.{arith}
+use lib.ListN.{length}
+use Rattle.rules.specs.Plan.{legIn}
+use Rattle.rules.specs.Journal.{trackOf}
+use Rattle.kicks.proofs.GlobalLaws.{global-shuffle}
 use borrow.Author.Needs.{needs}
 use Rattle.kicks.proofs.global_kick.Statement.{statement}
 use Rattle.kicks.proofs.global_kick.Tie as tie
@@ -32,11 +38,15 @@ same-length-5 c = search needs
 
 -- src/lib.rt:197:9
 returns : tie.Need-returns
-returns c = ?
+unfolding trackOf
+returns c = 
+    let a = (c .before .before .before .before .before .before .before .before .before .before .before .before .before .before .before .before .before .before .before .before .before .before .before .before .before .args) in
+    let few : length (a .round .now) < 8 = omega arith in
+    rw (global-shuffle (legIn (length (a .round .now)) (a .matrix .now)) (a .state .now) (trackOf (a .round .now) (a .journal .now) (a .held)) few) ((c .before .before .before .before .before .before .before .before .before .before .shuffle-kick) .ensures)
 
 -- src/lib.rt:199:5
 bridge-kick-requires : tie.Need-bridge-kick-requires
-bridge-kick-requires c κs = ?
+bridge-kick-requires c κs = ((c .before .before .before .before .before .before .before .before .before .before .before .before .before .before .before .pre) .0, ((c .before .before .before .before .before .before .before .before .before .before .before .before .before .before .before .pre) .1, (c .before .before .before .before .before .before .before .if1) .left))
 
 -- src/lib.rt:180:1
 same-length-6 : tie.Need-same-length-6

@@ -1,3 +1,12 @@
+use mathlib.Core.Path.{_≡_, refl, sym, _∙_}
+use Prim.Native.Nat.{ℕ, _+_, _-_, _≤_, _<_}
+use native.Mathlib.Omega.{arith}
+use lib.ListN.{length}
+use Rattle.rules.specs.Draws.{drawn, moved}
+use Rattle.rules.specs.Ring.{prev as prevOf}
+use Rattle.rules.specs.Plan.{legIn}
+use Rattle.kicks.proofs.KickingLaws.{tied-stops}
+use Rattle.kicks.proofs.PartLaws.{window-made, window-still}
 use borrow.Author.Needs.{needs}
 use Rattle.kicks.proofs.window_kick.Statement.{statement}
 use Rattle.kicks.proofs.window_kick.Tie as tie
@@ -13,7 +22,10 @@ use Rattle.ring.proofs.times.path_cost.Reads as path-cost-reads
 
 -- src/lib.rt:124:9
 returns : tie.Need-returns
-returns c = ?
+returns c = 
+    let a = (c .before .before .before .before .before .before .before .args) in
+    let few : length (a .round .now) < 32 = omega arith in
+    window-still (legIn (length (a .round .now)) (a .matrix .now)) (a .state .now) few (c .before .before .before .before .before .before .before .pre)
 
 -- src/lib.rt:131:38
 sub-narrow : tie.Need-sub-narrow
@@ -41,15 +53,15 @@ path-cost-requires c κs = search needs
 
 -- src/lib.rt:134:9
 shuffle-requires : tie.Need-shuffle-requires
-shuffle-requires c κs = ?
+shuffle-requires c κs = ((c .before .before .before .before .before .before .before .before .before .before .before .before .before .before .before .before .before .before .pre) .tied, (omega (arith, (c .before .before .before .before .before .before .before .before .before .narrow) .ensures, (c .before .before .before .before .before .before .before .before .draw) .ensures .most), (c .before .before .before .before .before .before .before .before .before .before .before .before .before .before .before .before .before .before .pre) .journalled))
 
 -- src/lib.rt:135:9
 path-cost-requires-2 : tie.Need-path-cost-requires-2
-path-cost-requires-2 c κs = ?
+path-cost-requires-2 c κs = (rw ((c .before .before .before .before .before .before .before .shuffle) .kept .0) ((c .before .before .before .before .before .before .before .before .before .before .before .before .before .before .before .before .before .before .before .before .before .before .before .before .before .before .pre) .square), (tied-stops _ refl ((c .before .before .before .before .before .before .before .shuffle) .ensures .moved .tied), (omega (arith, (c .before .before .before .before .before .before .before .shuffle) .kept .0, (c .before .before .before .before .before .before .before .before .before .before .before .before .before .before .prev) .ensures .below), omega (arith, (c .before .before .before .before .before .before .before .shuffle) .kept .0))))
 
 -- src/lib.rt:136:9
 push-places-requires : tie.Need-push-places-requires
-push-places-requires c κs = ?
+push-places-requires c κs = ((c .before .before .before .before .before .before .before .before .before .before .before .before .before .before .before .before .before .before .before .before .before .before .before .before .before .before .before .before .before .before .pre) .line, (tied-stops _ ((c .before .before .before .before .before .before .before .before .before .before .before .shuffle) .kept .0 ∙ sym ((c .before .before .before .before .before .before .before .before .before .before .before .before .before .before .before .before .before .before .before .before .before .before .before .before .before .before .before .before .before .before .pre) .long)) ((c .before .before .before .before .before .before .before .before .before .before .before .shuffle) .ensures .moved .tied), (omega (arith, (c .before .before .before .before .before .before .before .before .before .before .before .shuffle) .kept .0, (c .before .before .before .before .before .before .before .before .before .before .before .before .before .before .before .before .before .before .prev) .ensures .below), omega (arith, (c .before .before .before .before .before .before .before .before .before .before .before .shuffle) .kept .0))))
 
 -- src/lib.rt:108:1
 same-length : tie.Need-same-length
@@ -73,7 +85,13 @@ same-length-5 c = search needs
 
 -- src/lib.rt:108:1
 returns-2 : tie.Need-returns-2
-returns-2 c = ?
+returns-2 c = 
+    let a = (c .before .before .before .before .before .before .before .before .before .before .before .before .before .before .before .before .before .before .before .before .before .before .before .before .before .before .before .before .before .before .before .before .before .before .before .args) in
+    let n : ℕ = length (a .round .now) in
+    let big : 32 ≤ n = omega (arith, (c .before .before .before .before .before .before .before .before .before .before .before .before .before .before .before .before .before .before .before .before .before .before .before .before .before .before .before .before .if1) .left) in
+    let left : (c .before .before .before .before .before .before .before .before .before .before .before .before .before .before .before .before .before .before .before .before .before .before .before .before .before .draw) .result ≡ drawn 0 (n - 30) (moved (a .state .now)) = rw (← (c .before .before .before .before .before .before .before .before .before .before .before .before .before .before .before .before .before .before .before .before .before .before .before .before .before .before .narrow) .ensures) (omega (arith, (c .before .before .before .before .before .before .before .before .before .before .before .before .before .before .before .before .before .before .before .before .before .before .before .before .before .draw) .ensures .is)) in
+    let first : (c .before .before .before .before .before .before .before .before .before .before .before .before .before .before .before .before .before .before .before .before .before .before .before .prev) .result ≡ prevOf n ((c .before .before .before .before .before .before .before .before .before .before .before .before .before .before .before .before .before .before .before .before .before .before .before .before .before .draw) .result) = rw (← (c .before .before .before .before .before .before .before .before .before .before .before .before .before .before .before .before .before .before .before .before .before .before .before .before .wide) .ensures) (omega (arith, (c .before .before .before .before .before .before .before .before .before .before .before .before .before .before .before .before .before .before .before .before .before .before .before .prev) .ensures .is)) in
+    window-made (legIn n (a .matrix .now)) (a .round .now) (a .journal .now) (a .held) (a .state .now) ((c .before .before .before .before .before .before .before .before .before .before .before .before .before .before .before .before .before .before .before .before .before .before .before .before .before .draw) .last .0) ((c .before .before .before .before .before .before .before .before .before .before .before .before .before .before .before .before .before .before .before .before .before .before .before .before .before .draw) .result) ((c .before .before .before .before .before .before .before .before .before .before .before .before .before .before .before .before .before .before .before .before .before .before .before .prev) .result) big ((c .before .before .before .before .before .before .before .before .before .before .before .before .before .before .before .before .before .before .before .before .before .before .before .before .before .draw) .ensures .state) ((c .before .before .before .before .before .before .before .before .before .before .before .before .before .before .before .before .before .before .before .before .before .before .before .before .before .draw) .ensures .some) left first ((c .before .before .before .before .before .before .before .before .before .before .before .before .before .before .before .before .shuffle) .ensures) ((c .before .before .before .before .push-places) .ensures) (rw ((c .before .before .before .before .before .before .before .before .before .before .before .before .before .before .before .before .shuffle) .kept .0) at ((c .before .before .before .before .before .before .before .before .path-cost2) .ensures)) ((c .before .before .before .before .before .before .before .before .before .before .before .before .before .before .before .before .before .before .before .before .before .path-cost) .ensures)
 
 pub window-kick-spec : {M : Type 1} → statement M
 window-kick-spec =
