@@ -1,3 +1,4 @@
+mod ChangeLaws
 mod DrawingLaws
 mod EndsLaws
 mod ExchangeLaws

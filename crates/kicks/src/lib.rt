@@ -1,6 +1,7 @@
 // Kicks: segments that change places, and places shuffled.
 ghost use mathlib.Core.Path.{_≡_};
 ghost use Prim.Native.Nat.{ℕ, _≤_, _<_};
+ghost use lib.IntN.{pos, _+ℤ_};
 ghost use lib.ListN.{length};
 ghost use Rattle.rules.specs.Plan.{legIn};
 ghost use Rattle.rules.specs.Queue.{waiting};
@@ -230,4 +231,13 @@ pub fn kick(
     exchange(
         matrix, round, places, scratch, journal, queue, flags, held, line, cut, false,
     )
+}
+
+// The signed change in time that a kick reports.
+pub fn change(added: u32, removed: u32) -> i32
+    requires { ⌜ added < 2147483648 ⌝ }
+    requires { ⌜ removed < 2147483648 ⌝ }
+    ensures { λ r. ⌜ r +ℤ pos removed ≡ pos added ⌝ }
+{
+    added as i32 - removed as i32
 }
