@@ -1,5 +1,5 @@
 -- Draws made one after another are those of a kick's spans.
-use Prim.Native.Nat.{ℕ, zero, suc, _-_, _/_, _≤_}
+use Prim.Native.Nat.{ℕ, zero, suc, _-_, _≤_}
 use mathlib.Core.Path.{_≡_, refl, ap}
 use mathlib.Core.List.{List, [], _∷_}
 use native.Mathlib.Omega.{arith}
@@ -7,7 +7,7 @@ use native.Mathlib.Decide.{decLt}
 use lib.Dec.{eqb}
 use borrow.Author.Tests.{lt-ltb}
 use Rattle.rules.specs.Lists.{if_then_else_}
-use Rattle.rules.specs.Draws.{Span, _to_, Drawn, drawn, moved, draws}
+use Rattle.rules.specs.Draws.{Span, _to_, drawn, moved, draws}
 use Rattle.rules.specs.Kicks.{kindAt, longest, globalSpans, spans}
 
 -- the spans by the kind that is carried out

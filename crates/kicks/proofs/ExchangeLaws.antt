@@ -1,16 +1,15 @@
 -- Segments that change places: what the ends are gives the rule's kick; a double bridge is such a kick.
-use Prim.Native.Nat.{ℕ, _+_, _-_, _%_, _≤_, _<_}
-use mathlib.Core.Path.{_≡_, refl, sym, ap, ap₂, _∙_}
+use Prim.Native.Nat.{ℕ, _+_, _-_, _%_, _<_}
+use mathlib.Core.Path.{_≡_, refl, sym, _∙_}
 use mathlib.Core.Bool.{Bool, true, false}
 use mathlib.Core.List.{List, [], _∷_}
 use native.Mathlib.Omega.{arith}
-use lib.Dec.{eqb}
 use lib.ListN.{length}
 use borrow.Author.Tests.{ne-eqb}
-use Rattle.rules.specs.Words.{Stop, Place, Round, Time, Legs}
+use Rattle.rules.specs.Words.{Stop, Place, Round, Legs}
 use Rattle.rules.specs.Lists.{at}
 use Rattle.rules.specs.Journal.{Track, rotation, trackOf, doing}
-use Rattle.rules.specs.Kicks.{Kicked, segmentKick, bridgeKick}
+use Rattle.rules.specs.Kicks.{segmentKick, bridgeKick}
 use Rattle.rules.specs.Queue.{pushAll}
 use Rattle.laws.proofs.TurnLaws.{On, low, high, turn-on, turn-mod}
 use Rattle.ring.specs.Legs.{IsTime}

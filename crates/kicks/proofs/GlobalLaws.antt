@@ -7,13 +7,13 @@ use native.Mathlib.Omega.{arith}
 use native.Mathlib.Nat.{add-zero}
 use native.Mathlib.Decide.{decLt}
 use lib.Dec.{ltb, eqb}
-use lib.ListN.{length, drop}
+use lib.ListN.{length}
 use borrow.Author.Tests.{lt-ltb, le-ltb}
 use Rattle.rules.specs.Words.{Place, Legs}
 use Rattle.rules.specs.Lists.{if_then_else_, at}
 use Rattle.rules.specs.Draws.{Span, _to_, Drawn, drawn, draws, moved}
-use Rattle.rules.specs.Journal.{Track, rotation, doing, carryOut}
-use Rattle.rules.specs.Kicks.{Kicked, Kick, kindAt, longest, shuffleSpans, globalSpans, spans, shuffleKick, windowKick, bridgeKick, segmentKick, globalKick, kicked, kick, andThen}
+use Rattle.rules.specs.Journal.{Track, doing, carryOut}
+use Rattle.rules.specs.Kicks.{Kicked, Kick, kindAt, longest, shuffleSpans, globalSpans, spans, bridgeKick, segmentKick, globalKick, kicked, kick, andThen}
 use Rattle.laws.proofs.RewriteLaws.{rotateAt-length}
 use Rattle.kicks.specs.Kicking.{still, shuffleDrawn, windowDrawn, globalDrawn}
 

@@ -1,17 +1,17 @@
 -- The parts of a global kick, as they are made.
-use Prim.Native.Nat.{ℕ, _+_, _-_, _/_, _≤_, _<_}
-use mathlib.Core.Path.{_≡_, refl, sym, ap, _∙_, subst}
+use Prim.Native.Nat.{ℕ, _+_, _-_, _≤_, _<_}
+use mathlib.Core.Path.{_≡_, refl, ap, subst}
 use mathlib.Core.Bool.{true}
-use mathlib.Core.List.{List, [], _∷_}
+use mathlib.Core.List.{List}
 use native.Mathlib.Omega.{arith}
 use lib.ListN.{length, take}
 use borrow.Author.Tests.{lt-ltb, le-ltb}
 use Rattle.rules.specs.Words.{Stop, Place, Round, Time, Legs}
-use Rattle.rules.specs.Draws.{Span, _to_, drawn, draws, moved}
+use Rattle.rules.specs.Draws.{_to_, drawn, draws, moved}
 use Rattle.rules.specs.Ring.{prev, turn, pathCost, recount}
 use Rattle.rules.specs.Queue.{pushAll, waiting}
 use Rattle.rules.specs.Journal.{Track, trackOf}
-use Rattle.rules.specs.Kicks.{Kicked, Kick, shuffleSpans, shuffled, shuffleKick, windowKick, bridgeKick, andThen}
+use Rattle.rules.specs.Kicks.{shuffleSpans, shuffled, shuffleKick, windowKick, bridgeKick}
 use Rattle.laws.proofs.DrawLaws.{draws-values, draws-state}
 use Rattle.ring.specs.Legs.{IsTime}
 use Rattle.journal.proofs.GrewLaws.{grew-self}
@@ -20,7 +20,7 @@ use Rattle.kicks.specs.Drawing.{BridgeDrawn}
 use Rattle.kicks.specs.Exchanging.{exchangeKick}
 use Rattle.kicks.specs.Kicking.{Ready, Shuffled, Made, Kicks, still, shuffleDrawn, windowDrawn, globalDrawn}
 use Rattle.kicks.proofs.ExchangeLaws.{exchange-bridge}
-use Rattle.kicks.proofs.GlobalLaws.{thenKick, global-bridge}
+use Rattle.kicks.proofs.GlobalLaws.{global-bridge}
 use Rattle.kicks.proofs.KickingLaws.{waits-as, tracked-wider, time-wider, made-then}
 
 module _ (d : Legs) (r : Round) (journal : List ℕ) (held x : ℕ) {q : List Stop} {head : Place} {round : Round} {places : List Place} {journal′ : List ℕ} {held′ : ℕ} {queue flags : List ℕ} {head′ : Place} {count added removed new : ℕ} where

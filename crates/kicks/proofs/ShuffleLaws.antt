@@ -1,8 +1,8 @@
 -- The loop of `shuffle`: what is left to draw and to exchange, done from here, gives the goal.
 use Prim.Native.Nat.{ℕ, zero, suc, _+_, _-_, _≤_, _<_}
 use mathlib.Core.Path.{_≡_, refl, sym, ap, _∙_}
-use mathlib.Core.Bool.{Bool, true}
-use mathlib.Core.List.{List, [], _∷_}
+use mathlib.Core.Bool.{true}
+use mathlib.Core.List.{List, _∷_}
 use native.Mathlib.Omega.{arith}
 use lib.Dec.{eqb}
 use lib.ListN.{length}
@@ -13,9 +13,9 @@ use Rattle.rules.specs.Journal.{Track, swap, goodJournal, trackOf, doing}
 use Rattle.rules.specs.Kicks.{shuffleSpans, shuffled}
 use Rattle.rules.specs.Contracts.{Tied}
 use Rattle.laws.proofs.DrawLaws.{draws-long}
-use Rattle.journal.specs.Journalled.{Journalled, Grew, Moved}
+use Rattle.journal.specs.Journalled.{Grew, Moved}
 use Rattle.journal.proofs.GrewLaws.{grew-self, grew-grew}
-use Rattle.kicks.specs.Kicking.{Tracked, Shuffled}
+use Rattle.kicks.specs.Kicking.{Shuffled}
 
 -- k places are left, the rest are shuffled
 pub record Shuffling (start : Place) (len x₀ : ℕ) (round₀ : Round) (journal₀ : List ℕ) (held : ℕ) (round : Round) (places : List Place) (journal : List ℕ) (x h k : ℕ) : Type 0 where

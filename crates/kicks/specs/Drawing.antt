@@ -1,11 +1,11 @@
 -- What a kick draws before it moves stops: lengths of segments, and where they start. Assumes nothing.
 use Prim.Native.Nat.{ℕ, _+_, _-_, _*_, _/_, _≤_, _<_}
 use mathlib.Core.Path.{_≡_}
-use mathlib.Core.List.{List, [], _∷_}
+use mathlib.Core.List.{[], _∷_}
 use lib.Dec.{eqb}
 use Rattle.rules.specs.Words.{Place}
 use Rattle.rules.specs.Lists.{if_then_else_}
-use Rattle.rules.specs.Draws.{Span, _to_, Drawn, drawn, moved, draws}
+use Rattle.rules.specs.Draws.{_to_, drawn, moved, draws}
 use Rattle.rules.specs.Kicks.{longest, spans}
 use Rattle.kicks.specs.Exchanging.{Segments}
 

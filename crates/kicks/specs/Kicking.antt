@@ -1,13 +1,13 @@
 -- What the kicks ask and promise. Assumes nothing.
-use Prim.Native.Nat.{ℕ, _+_, _-_, _*_, _≤_, _<_}
+use Prim.Native.Nat.{ℕ, _+_, _-_, _≤_, _<_}
 use mathlib.Core.Path.{_≡_}
-use mathlib.Core.Bool.{Bool, true, false}
+use mathlib.Core.Bool.{true}
 use mathlib.Core.List.{List, [], _∷_}
 use lib.Dec.{ltb}
 use lib.ListN.{length, drop}
 use Rattle.rules.specs.Words.{Stop, Place, Time, Round, Legs}
 use Rattle.rules.specs.Lists.{if_then_else_, at}
-use Rattle.rules.specs.Draws.{Span, _to_, draws}
+use Rattle.rules.specs.Draws.{_to_, draws}
 use Rattle.rules.specs.Queue.{pushAll}
 use Rattle.rules.specs.Journal.{Track, goodJournal, trackOf}
 use Rattle.rules.specs.Kicks.{Kicked, Kick, shuffleSpans, globalSpans, shuffleKick, windowKick, globalKick}

@@ -42,14 +42,7 @@ pub struct Ends {
 }
 
 // The stops beside the cuts.
-pub fn ends_of(
-    round: &[u32],
-    places: &[u32],
-    start: Place,
-    a: usize,
-    b: usize,
-    c: usize,
-) -> Ends
+pub fn ends_of(round: &[u32], places: &[u32], start: Place, a: usize, b: usize, c: usize) -> Ends
     requires { ⌜ Tied (now round) (now places) ⌝ }
     requires { ⌜ start .0 < length (now round) ⌝ }
     requires { ⌜ 0 < a ⌝ }

@@ -66,7 +66,17 @@ fn exchange(
     let e = ends_of(round, places, start, cut.a, b, cut.c);
     let removed = joints(matrix, n, b, e.p, e.x0, e.x1, e.y0, e.y1, e.z0, e.z1, e.q);
     let added = joints(matrix, n, b, e.p, e.z0, e.z1, e.y0, e.y1, e.x0, e.x1, e.q);
-    let h = rotate(round, places, scratch, journal, held, start, cut.a, b, cut.c);
+    let h = rotate(
+        round,
+        places,
+        scratch,
+        journal,
+        held,
+        start,
+        cut.a,
+        b,
+        cut.c,
+    );
     let l = push_ends(queue, flags, line, bridge, b, e);
     Kicked {
         held: h,
@@ -163,10 +173,28 @@ fn bridge_kick(
 {
     let cut = draw_bridge(state, round.len());
     let k = exchange(
-        matrix, round, places, scratch, journal, queue, flags, held, line, cut, true,
+        matrix,
+        round,
+        places,
+        scratch,
+        journal,
+        queue,
+        flags,
+        held,
+        line,
+        cut,
+        true,
     );
     let w = window_kick(
-        matrix, round, places, journal, queue, flags, state, k.held, k.line,
+        matrix,
+        round,
+        places,
+        journal,
+        queue,
+        flags,
+        state,
+        k.held,
+        k.line,
     );
     let l = w.line;
     Kicked {
@@ -195,10 +223,29 @@ pub fn global_kick(
     ensures { λ r. ⌜ Kicks (globalDrawn (legIn (length (now (round .entry))) (now (matrix .entry))) (now (state .entry)) (trackOf (now (round .entry)) (now (journal .entry)) held)) (now (state .entry)) 30 35 (waiting (now (queue .entry)) (line .head) (line .count)) (line .head) (now (journal .entry)) held (now (round .exit)) (now (places .exit)) (now (journal .exit)) (r .held) (now (queue .exit)) (now (flags .exit)) (r .line .head) (r .line .count) (r .added) (r .removed) (now (state .exit)) ⌝ }
 {
     if round.len() < 8 {
-        return shuffle_kick(matrix, round, places, journal, queue, flags, state, held, line);
+        return shuffle_kick(
+            matrix,
+            round,
+            places,
+            journal,
+            queue,
+            flags,
+            state,
+            held,
+            line,
+        );
     }
     bridge_kick(
-        matrix, round, places, scratch, journal, queue, flags, state, held, line,
+        matrix,
+        round,
+        places,
+        scratch,
+        journal,
+        queue,
+        flags,
+        state,
+        held,
+        line,
     )
 }
 
@@ -224,12 +271,31 @@ pub fn kick(
     let n = round.len();
     if kind_at(n, kind) == 2 {
         return global_kick(
-            matrix, round, places, scratch, journal, queue, flags, state, held, line,
+            matrix,
+            round,
+            places,
+            scratch,
+            journal,
+            queue,
+            flags,
+            state,
+            held,
+            line,
         );
     }
     let cut = draw_cut(state, n, kind);
     exchange(
-        matrix, round, places, scratch, journal, queue, flags, held, line, cut, false,
+        matrix,
+        round,
+        places,
+        scratch,
+        journal,
+        queue,
+        flags,
+        held,
+        line,
+        cut,
+        false,
     )
 }
 

@@ -1,5 +1,4 @@
-use mathlib.Core.Path.{_≡_, refl, sym}
-use Prim.Native.Nat.{_+_, _-_, _≤_, _<_}
+use mathlib.Core.Path.{refl, sym}
 use native.Mathlib.Omega.{arith}
 use lib.ListN.{length}
 use Rattle.rules.specs.Plan.{legIn}
@@ -7,64 +6,46 @@ use Rattle.kicks.proofs.ExchangeLaws.{exchange-made, ends-eight, eight-
 use borrow.Author.Needs.{needs}
 use Rattle.kicks.proofs.exchange.Statement.{statement}
 use Rattle.kicks.proofs.exchange.Tie as tie
-use Rattle.kicks.proofs.exchange.Reads as reads
-use Rattle.kicks.proofs.exchange.Lts as lts
-use Rattle.journal.proofs.rotate.Reads as rotate-reads
-use Rattle.kicks.proofs.ends.ends_of.Reads as ends-of-reads
-use Rattle.kicks.proofs.ends.joints.Reads as joints-reads
-use Rattle.kicks.proofs.ends.push_ends.Reads as push-ends-reads
 
--- src/lib.rt:65:9
 ends-of-requires : tie.Need-ends-of-requires
-ends-of-requires c κs = 
+ends-of-requires c κs =
     let g = (c .before .before .before .before .before .before .before .before .before .before .pre) .1 .1 in
     ((c .before .before .before .before .before .before .before .before .before .before .pre) .0 .tied, (g .below, (g .first, (g .last, g .fits))))
 
--- src/lib.rt:66:9
 joints-requires : tie.Need-joints-requires
 joints-requires c κs = search needs
 
--- src/lib.rt:67:9
 joints-requires-2 : tie.Need-joints-requires-2
 joints-requires-2 c κs = ((c .before .before .before .before .before .before .before .before .before .before .before .before .pre) .0 .square, eight-other (ends-eight _ refl ((c .before .ends-of) .ensures)))
 
--- src/lib.rt:68:9
 rotate-requires : tie.Need-rotate-requires
-rotate-requires c κs = 
+rotate-requires c κs =
     let g = (c .before .before .before .before .before .before .before .before .before .before .before .before .before .before .before .before .before .pre) .1 .1 in
     ((c .before .before .before .before .before .before .before .before .before .before .before .before .before .before .before .before .before .pre) .0 .tied, (g .below, (omega (arith, g .fits), ((c .before .before .before .before .before .before .before .before .before .before .before .before .before .before .before .before .before .pre) .1 .0, (c .before .before .before .before .before .before .before .before .before .before .before .before .before .before .before .before .before .pre) .0 .journalled))))
 
--- src/lib.rt:69:9
 push-ends-requires : tie.Need-push-ends-requires
 push-ends-requires c κs = ((c .before .before .before .before .before .before .before .before .before .before .before .before .before .before .before .before .before .before .before .before .before .before .before .before .before .before .before .before .pre) .0 .line, ends-eight _ (sym ((c .before .before .before .before .before .before .before .before .before .before .before .before .before .before .before .before .before .before .before .before .before .before .before .before .before .before .before .before .pre) .0 .long)) ((c .before .before .before .before .before .before .before .before .before .before .before .before .before .before .before .before .before .ends-of) .ensures))
 
--- src/lib.rt:44:1
 same-length : tie.Need-same-length
 same-length c = search needs
 
--- src/lib.rt:44:1
 same-length-2 : tie.Need-same-length-2
 same-length-2 c = search needs
 
--- src/lib.rt:44:1
 same-length-3 : tie.Need-same-length-3
 same-length-3 c = search needs
 
--- src/lib.rt:44:1
 same-length-4 : tie.Need-same-length-4
 same-length-4 c = search needs
 
--- src/lib.rt:44:1
 same-length-5 : tie.Need-same-length-5
 same-length-5 c = search needs
 
--- src/lib.rt:44:1
 same-length-6 : tie.Need-same-length-6
 same-length-6 c = search needs
 
--- src/lib.rt:44:1
 returns : tie.Need-returns
-returns c = 
+returns c =
     let a = (c .before .before .before .before .before .before .before .before .before .before .before .before .before .before .before .before .before .before .before .before .before .before .before .before .before .before .before .before .before .before .before .before .before .args) in
     exchange-made (a .bridge) (legIn (length (a .round .now)) (a .matrix .now)) (a .cut .a) (a .cut .b) (a .cut .c) (a .cut .start .0) (a .round .now) (a .journal .now) (a .held) ((c .before .before .before .before .before .before .before .before .before .before .before .before .before .before .before .before .before .before .before .before .before .before .ends-of) .ensures) ((c .before .before .before .before .before .before .before .before .before .before .before .before .before .before .before .rotate) .ensures) ((c .before .before .before .before .push-ends) .ensures) ((c .before .before .before .before .before .before .before .before .before .before .before .before .before .before .before .before .before .before .before .before .joints2) .ensures) ((c .before .before .before .before .before .before .before .before .before .before .before .before .before .before .before .before .before .before .before .before .before .joints) .ensures)
 

@@ -1,4 +1,4 @@
-use Prim.Native.Nat.{_≤_, _<_}
+use Prim.Native.Nat.{_<_}
 use native.Mathlib.Omega.{arith}
 use lib.ListN.{length}
 use Rattle.rules.specs.Plan.{legIn}
@@ -7,72 +7,53 @@ use Rattle.kicks.proofs.GlobalLaws.{global-shuffle}
 use borrow.Author.Needs.{needs}
 use Rattle.kicks.proofs.global_kick.Statement.{statement}
 use Rattle.kicks.proofs.global_kick.Tie as tie
-use Rattle.kicks.proofs.global_kick.Reads as reads
-use Rattle.kicks.proofs.global_kick.Lts as lts
-use Rattle.kicks.proofs.bridge_kick.Reads as bridge-kick-reads
-use Rattle.kicks.proofs.shuffle_kick.Reads as shuffle-kick-reads
 
--- src/lib.rt:197:9
 shuffle-kick-requires : tie.Need-shuffle-kick-requires
 shuffle-kick-requires c κs = search needs
 
--- src/lib.rt:197:9
 same-length : tie.Need-same-length
 same-length c = search needs
 
--- src/lib.rt:197:9
 same-length-2 : tie.Need-same-length-2
 same-length-2 c = search needs
 
--- src/lib.rt:197:9
 same-length-3 : tie.Need-same-length-3
 same-length-3 c = search needs
 
--- src/lib.rt:197:9
 same-length-4 : tie.Need-same-length-4
 same-length-4 c = search needs
 
--- src/lib.rt:197:9
 same-length-5 : tie.Need-same-length-5
 same-length-5 c = search needs
 
--- src/lib.rt:197:9
 returns : tie.Need-returns
 unfolding trackOf
-returns c = 
+returns c =
     let a = (c .before .before .before .before .before .before .before .before .before .before .before .before .before .before .before .before .before .before .before .before .before .before .before .before .before .args) in
     let few : length (a .round .now) < 8 = omega arith in
     rw (global-shuffle (legIn (length (a .round .now)) (a .matrix .now)) (a .state .now) (trackOf (a .round .now) (a .journal .now) (a .held)) few) ((c .before .before .before .before .before .before .before .before .before .before .shuffle-kick) .ensures)
 
--- src/lib.rt:199:5
 bridge-kick-requires : tie.Need-bridge-kick-requires
 bridge-kick-requires c κs = ((c .before .before .before .before .before .before .before .before .before .before .before .before .before .before .before .pre) .0, ((c .before .before .before .before .before .before .before .before .before .before .before .before .before .before .before .pre) .1, (c .before .before .before .before .before .before .before .if1) .left))
 
--- src/lib.rt:180:1
 same-length-6 : tie.Need-same-length-6
 same-length-6 c = search needs
 
--- src/lib.rt:180:1
 same-length-7 : tie.Need-same-length-7
 same-length-7 c = search needs
 
--- src/lib.rt:180:1
 same-length-8 : tie.Need-same-length-8
 same-length-8 c = search needs
 
--- src/lib.rt:180:1
 same-length-9 : tie.Need-same-length-9
 same-length-9 c = search needs
 
--- src/lib.rt:180:1
 same-length-10 : tie.Need-same-length-10
 same-length-10 c = search needs
 
--- src/lib.rt:180:1
 same-length-11 : tie.Need-same-length-11
 same-length-11 c = search needs
 
--- src/lib.rt:180:1
 returns-2 : tie.Need-returns-2
 returns-2 c = search needs
 

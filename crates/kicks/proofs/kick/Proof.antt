@@ -1,6 +1,4 @@
 use mathlib.Core.Path.{_≡_, refl, _∙_}
-use mathlib.Core.Bool.{false}
-use Prim.Native.Nat.{_≤_, _<_}
 use native.Mathlib.Omega.{arith}
 use lib.ListN.{length}
 use Rattle.rules.specs.Plan.{legIn}
@@ -12,92 +10,68 @@ use Rattle.kicks.proofs.KickingLaws.{ready-fewer, made-wider}
 use borrow.Author.Needs.{needs}
 use Rattle.kicks.proofs.kick.Statement.{statement}
 use Rattle.kicks.proofs.kick.Tie as tie
-use Rattle.kicks.proofs.kick.Reads as reads
-use Rattle.kicks.proofs.kick.Lts as lts
-use Rattle.kicks.proofs.cuts.draw_cut.Reads as draw-cut-reads
-use Rattle.kicks.proofs.cuts.kind_at.Reads as kind-at-reads
-use Rattle.kicks.proofs.exchange.Reads as exchange-reads
-use Rattle.kicks.proofs.global_kick.Reads as global-kick-reads
 
--- src/lib.rt:224:8
 kind-at-requires : tie.Need-kind-at-requires
 kind-at-requires c κs = search needs
 
--- src/lib.rt:225:9
 global-kick-requires : tie.Need-global-kick-requires
 global-kick-requires c κs = search needs
 
--- src/lib.rt:225:9
 same-length : tie.Need-same-length
 same-length c = search needs
 
--- src/lib.rt:225:9
 same-length-2 : tie.Need-same-length-2
 same-length-2 c = search needs
 
--- src/lib.rt:225:9
 same-length-3 : tie.Need-same-length-3
 same-length-3 c = search needs
 
--- src/lib.rt:225:9
 same-length-4 : tie.Need-same-length-4
 same-length-4 c = search needs
 
--- src/lib.rt:225:9
 same-length-5 : tie.Need-same-length-5
 same-length-5 c = search needs
 
--- src/lib.rt:225:9
 same-length-6 : tie.Need-same-length-6
 same-length-6 c = search needs
 
--- src/lib.rt:225:9
 returns : tie.Need-returns
 unfolding trackOf
-returns c = 
+returns c =
     let a = (c .before .before .before .before .before .before .before .before .before .before .before .before .before .before .before .before .before .before .before .before .before .before .before .before .before .before .before .before .before .args) in
     let two : kindAt (length (a .round .now)) (a .kind) ≡ 2 = omega (arith, (c .before .before .before .before .before .before .before .before .before .before .before .before .before .before .before .before .before .before .before .before .before .kind-at) .ensures, (c .before .before .before .before .before .before .before .before .before .before .before .before .before .before .before .before .before .before .before .before .if1) .taken) in
     rw (kick-global (legIn (length (a .round .now)) (a .matrix .now)) (a .kind) (a .state .now) (trackOf (a .round .now) (a .journal .now) (a .held)) two) ((c .before .before .before .before .before .before .before .before .before .before .before .before .global-kick) .ensures)
 
--- src/lib.rt:229:9
 draw-cut-requires : tie.Need-draw-cut-requires
-draw-cut-requires c κs = 
+draw-cut-requires c κs =
     let a = (c .before .before .before .before .before .before .before .before .before .before .args) in
     let not-two : kindAt (length (a .round .now)) (a .kind) ≡ 2 → ⊥ = λ e. (c .before .if1) .left ((c .before .before .kind-at) .ensures ∙ e) in
     ((c .before .before .before .before .before .before .before .before .before .before .pre) .0 .two, ((c .before .before .before .before .before .before .before .before .before .before .pre) .0 .tied .few, kind-stays (length (a .round .now)) (a .kind) ((c .before .before .before .before .before .before .before .before .before .before .pre) .1 .1) not-two))
 
--- src/lib.rt:230:5
 exchange-requires : tie.Need-exchange-requires
 exchange-requires c κs = (ready-fewer ((c .before .before .before .before .before .before .before .before .before .before .before .before .before .before .before .before .before .pre) .0) 1 (omega arith), ((c .before .before .before .before .before .before .before .before .before .before .before .before .before .before .before .before .before .pre) .1 .0, (c .before .before .before .before .before .before .draw-cut) .ensures .segments))
 
--- src/lib.rt:205:1
 same-length-7 : tie.Need-same-length-7
 same-length-7 c = search needs
 
--- src/lib.rt:205:1
 same-length-8 : tie.Need-same-length-8
 same-length-8 c = search needs
 
--- src/lib.rt:205:1
 same-length-9 : tie.Need-same-length-9
 same-length-9 c = search needs
 
--- src/lib.rt:205:1
 same-length-10 : tie.Need-same-length-10
 same-length-10 c = search needs
 
--- src/lib.rt:205:1
 same-length-11 : tie.Need-same-length-11
 same-length-11 c = search needs
 
--- src/lib.rt:205:1
 same-length-12 : tie.Need-same-length-12
 same-length-12 c = search needs
 
--- src/lib.rt:205:1
 returns-2 : tie.Need-returns-2
 unfolding trackOf
-returns-2 c = 
+returns-2 c =
     let a = (c .before .before .before .before .before .before .before .before .before .before .before .before .before .before .before .before .before .before .before .before .before .before .before .before .before .before .before .before .before .before .args) in
     let d = legIn (length (a .round .now)) (a .matrix .now) in
     let t = trackOf (a .round .now) (a .journal .now) (a .held) in

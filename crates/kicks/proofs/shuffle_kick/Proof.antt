@@ -1,5 +1,4 @@
-use mathlib.Core.Path.{_≡_, refl, sym, _∙_}
-use Prim.Native.Nat.{_+_, _-_, _≤_, _<_}
+use mathlib.Core.Path.{refl, sym, _∙_}
 use native.Mathlib.Omega.{arith}
 use lib.ListN.{length}
 use Rattle.rules.specs.Plan.{legIn}
@@ -8,56 +7,39 @@ use Rattle.kicks.proofs.PartLaws.{shuffle-made}
 use borrow.Author.Needs.{needs}
 use Rattle.kicks.proofs.shuffle_kick.Statement.{statement}
 use Rattle.kicks.proofs.shuffle_kick.Tie as tie
-use Rattle.kicks.proofs.shuffle_kick.Reads as reads
-use Rattle.kicks.proofs.shuffle_kick.Lts as lts
-use Rattle.kicks.proofs.shuffles.shuffle.Reads as shuffle-reads
-use Rattle.queue.proofs.activate_all.Reads as activate-all-reads
-use Rattle.ring.proofs.places.narrow.Reads as narrow-reads
-use Rattle.ring.proofs.times.cost.Reads as cost-reads
 
--- src/lib.rt:94:9
 cost-requires : tie.Need-cost-requires
 cost-requires c κs = search needs
 
--- src/lib.rt:95:9
 narrow-requires : tie.Need-narrow-requires
 narrow-requires c κs = search needs
 
--- src/lib.rt:96:9
 shuffle-requires : tie.Need-shuffle-requires
 shuffle-requires c κs = ((c .before .before .before .before .before .before .before .before .before .before .before .before .before .pre) .0 .tied, (omega (arith, (c .before .before .before .before .narrow) .ensures), journalled-fewer _ (omega (arith, (c .before .before .before .before .narrow) .ensures, (c .before .before .before .before .before .before .before .before .before .before .before .before .before .pre) .1)) ((c .before .before .before .before .before .before .before .before .before .before .before .before .before .pre) .0 .journalled)))
 
--- src/lib.rt:97:9
 cost-requires-2 : tie.Need-cost-requires-2
 cost-requires-2 c κs = (rw ((c .before .before .before .before .before .before .before .shuffle) .kept .0) ((c .before .before .before .before .before .before .before .before .before .before .before .before .before .before .before .before .before .before .before .before .before .pre) .0 .square), tied-stops _ refl ((c .before .before .before .before .before .before .before .shuffle) .ensures .moved .tied))
 
--- src/lib.rt:98:9
 activate-all-requires : tie.Need-activate-all-requires
 activate-all-requires c κs = ((c .before .before .before .before .before .before .before .before .before .before .before .before .before .before .before .before .before .before .before .before .before .before .before .before .before .pre) .0 .line, tied-stops _ ((c .before .before .before .before .before .before .before .before .before .before .before .shuffle) .kept .0 ∙ sym ((c .before .before .before .before .before .before .before .before .before .before .before .before .before .before .before .before .before .before .before .before .before .before .before .before .before .pre) .0 .long)) ((c .before .before .before .before .before .before .before .before .before .before .before .shuffle) .ensures .moved .tied))
 
--- src/lib.rt:79:1
 same-length : tie.Need-same-length
 same-length c = search needs
 
--- src/lib.rt:79:1
 same-length-2 : tie.Need-same-length-2
 same-length-2 c = search needs
 
--- src/lib.rt:79:1
 same-length-3 : tie.Need-same-length-3
 same-length-3 c = search needs
 
--- src/lib.rt:79:1
 same-length-4 : tie.Need-same-length-4
 same-length-4 c = search needs
 
--- src/lib.rt:79:1
 same-length-5 : tie.Need-same-length-5
 same-length-5 c = search needs
 
--- src/lib.rt:79:1
 returns : tie.Need-returns
-returns c = 
+returns c =
     let a = (c .before .before .before .before .before .before .before .before .before .before .before .before .before .before .before .before .before .before .before .before .before .before .before .before .before .before .before .before .before .before .args) in
     shuffle-made (legIn (length (a .round .now)) (a .matrix .now)) (a .round .now) (a .journal .now) (a .held) (a .state .now) ((c .before .before .before .before .before .before .before .before .before .before .before .before .before .before .before .before .before .before .before .before .before .narrow) .result) ((c .before .before .before .before .before .before .before .before .before .before .before .before .before .before .before .before .before .before .before .before .before .narrow) .ensures) ((c .before .before .before .before .before .before .before .before .before .before .before .before .before .before .before .before .before .before .before .before .before .before .before .before .before .before .before .before .before .before .pre) .1) ((c .before .before .before .before .before .before .before .before .before .before .before .before .before .before .before .before .shuffle) .ensures) ((c .before .before .before .before .activate-all) .ensures) (rw ((c .before .before .before .before .before .before .before .before .before .before .before .before .before .before .before .before .shuffle) .kept .0) at ((c .before .before .before .before .before .before .before .before .cost2) .ensures)) ((c .before .before .before .before .before .before .before .before .before .before .before .before .before .before .before .before .before .before .before .before .before .before .cost) .ensures)
 

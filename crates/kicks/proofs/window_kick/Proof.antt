@@ -1,5 +1,5 @@
 use mathlib.Core.Path.{_≡_, refl, sym, _∙_}
-use Prim.Native.Nat.{ℕ, _+_, _-_, _≤_, _<_}
+use Prim.Native.Nat.{ℕ, _-_, _≤_, _<_}
 use native.Mathlib.Omega.{arith}
 use lib.ListN.{length}
 use Rattle.rules.specs.Draws.{drawn, moved}
@@ -10,82 +10,57 @@ use Rattle.kicks.proofs.PartLaws.{window-made, window-still}
 use borrow.Author.Needs.{needs}
 use Rattle.kicks.proofs.window_kick.Statement.{statement}
 use Rattle.kicks.proofs.window_kick.Tie as tie
-use Rattle.kicks.proofs.window_kick.Reads as reads
-use Rattle.kicks.proofs.window_kick.Lts as lts
-use Rattle.draws.proofs.draw.Reads as draw-reads
-use Rattle.kicks.proofs.shuffles.shuffle.Reads as shuffle-reads
-use Rattle.legs.proofs.wide.Reads as wide-reads
-use Rattle.queue.proofs.push_places.Reads as push-places-reads
-use Rattle.ring.proofs.places.narrow.Reads as narrow-reads
-use Rattle.ring.proofs.places.prev.Reads as prev-reads
-use Rattle.ring.proofs.times.path_cost.Reads as path-cost-reads
 
--- src/lib.rt:124:9
 returns : tie.Need-returns
-returns c = 
+returns c =
     let a = (c .before .before .before .before .before .before .before .args) in
     let few : length (a .round .now) < 32 = omega arith in
     window-still (legIn (length (a .round .now)) (a .matrix .now)) (a .state .now) few (c .before .before .before .before .before .before .before .pre)
 
--- src/lib.rt:131:38
 sub-narrow : tie.Need-sub-narrow
 sub-narrow c = search needs
 
--- src/lib.rt:131:31
 narrow-requires : tie.Need-narrow-requires
 narrow-requires c κs = search needs
 
--- src/lib.rt:131:9
 draw-requires : tie.Need-draw-requires
 draw-requires c κs = search needs
 
--- src/lib.rt:132:22
 wide-requires : tie.Need-wide-requires
 wide-requires c κs = search needs
 
--- src/lib.rt:132:9
 prev-requires : tie.Need-prev-requires
 prev-requires c κs = search needs
 
--- src/lib.rt:133:9
 path-cost-requires : tie.Need-path-cost-requires
 path-cost-requires c κs = search needs
 
--- src/lib.rt:134:9
 shuffle-requires : tie.Need-shuffle-requires
 shuffle-requires c κs = ((c .before .before .before .before .before .before .before .before .before .before .before .before .before .before .before .before .before .before .pre) .tied, (omega (arith, (c .before .before .before .before .before .before .before .before .before .narrow) .ensures, (c .before .before .before .before .before .before .before .before .draw) .ensures .most), (c .before .before .before .before .before .before .before .before .before .before .before .before .before .before .before .before .before .before .pre) .journalled))
 
--- src/lib.rt:135:9
 path-cost-requires-2 : tie.Need-path-cost-requires-2
 path-cost-requires-2 c κs = (rw ((c .before .before .before .before .before .before .before .shuffle) .kept .0) ((c .before .before .before .before .before .before .before .before .before .before .before .before .before .before .before .before .before .before .before .before .before .before .before .before .before .before .pre) .square), (tied-stops _ refl ((c .before .before .before .before .before .before .before .shuffle) .ensures .moved .tied), (omega (arith, (c .before .before .before .before .before .before .before .shuffle) .kept .0, (c .before .before .before .before .before .before .before .before .before .before .before .before .before .before .prev) .ensures .below), omega (arith, (c .before .before .before .before .before .before .before .shuffle) .kept .0))))
 
--- src/lib.rt:136:9
 push-places-requires : tie.Need-push-places-requires
 push-places-requires c κs = ((c .before .before .before .before .before .before .before .before .before .before .before .before .before .before .before .before .before .before .before .before .before .before .before .before .before .before .before .before .before .before .pre) .line, (tied-stops _ ((c .before .before .before .before .before .before .before .before .before .before .before .shuffle) .kept .0 ∙ sym ((c .before .before .before .before .before .before .before .before .before .before .before .before .before .before .before .before .before .before .before .before .before .before .before .before .before .before .before .before .before .before .pre) .long)) ((c .before .before .before .before .before .before .before .before .before .before .before .shuffle) .ensures .moved .tied), (omega (arith, (c .before .before .before .before .before .before .before .before .before .before .before .shuffle) .kept .0, (c .before .before .before .before .before .before .before .before .before .before .before .before .before .before .before .before .before .before .prev) .ensures .below), omega (arith, (c .before .before .before .before .before .before .before .before .before .before .before .shuffle) .kept .0))))
 
--- src/lib.rt:108:1
 same-length : tie.Need-same-length
 same-length c = search needs
 
--- src/lib.rt:108:1
 same-length-2 : tie.Need-same-length-2
 same-length-2 c = search needs
 
--- src/lib.rt:108:1
 same-length-3 : tie.Need-same-length-3
 same-length-3 c = search needs
 
--- src/lib.rt:108:1
 same-length-4 : tie.Need-same-length-4
 same-length-4 c = search needs
 
--- src/lib.rt:108:1
 same-length-5 : tie.Need-same-length-5
 same-length-5 c = search needs
 
--- src/lib.rt:108:1
 returns-2 : tie.Need-returns-2
-returns-2 c = 
+returns-2 c =
     let a = (c .before .before .before .before .before .before .before .before .before .before .before .before .before .before .before .before .before .before .before .before .before .before .before .before .before .before .before .before .before .before .before .before .before .before .before .args) in
     let n : ℕ = length (a .round .now) in
     let big : 32 ≤ n = omega (arith, (c .before .before .before .before .before .before .before .before .before .before .before .before .before .before .before .before .before .before .before .before .before .before .before .before .before .before .before .before .if1) .left) in

@@ -1,59 +1,41 @@
-use mathlib.Core.Path.{_≡_, refl}
-use Prim.Native.Nat.{_<_, _≤_, _/_}
-use native.Mathlib.Omega.{arith}
+use Prim.Native.Nat.{_/_}
 use Rattle.kicks.proofs.DrawingLaws.{bridge-drawn}
 use borrow.Author.Needs.{needs}
 use Rattle.kicks.proofs.cuts.draw_bridge.Statement.{statement}
 use Rattle.kicks.proofs.cuts.draw_bridge.Tie as tie
-use Rattle.kicks.proofs.cuts.draw_bridge.Reads as reads
-use Rattle.kicks.proofs.cuts.draw_bridge.Lts as lts
-use Rattle.draws.proofs.draw.Reads as draw-reads
-use Rattle.legs.proofs.wide.Reads as wide-reads
-use Rattle.ring.proofs.places.narrow.Reads as narrow-reads
 
--- src/cuts.rt:76:9
 narrow-requires : tie.Need-narrow-requires
 narrow-requires c κs = search needs
 
--- src/cuts.rt:77:9
 draw-requires : tie.Need-draw-requires
 draw-requires c κs = search needs
 
--- src/cuts.rt:78:9
 draw-requires-2 : tie.Need-draw-requires-2
 draw-requires-2 c κs = search needs
 
--- src/cuts.rt:79:9
 draw-requires-3 : tie.Need-draw-requires-3
 draw-requires-3 c κs = search needs
 
--- src/cuts.rt:80:9
 wide-requires : tie.Need-wide-requires
 wide-requires c κs = search needs
 
--- src/cuts.rt:81:9
 wide-requires-2 : tie.Need-wide-requires-2
 wide-requires-2 c κs = search needs
 
--- src/cuts.rt:86:17
 wide-requires-3 : tie.Need-wide-requires-3
 wide-requires-3 c κs = search needs
 
--- src/cuts.rt:86:17
 add-t14 : tie.Need-add-t14
 add-t14 c = search needs
 
--- src/cuts.rt:86:17
 add-t15 : tie.Need-add-t15
 add-t15 c = search needs
 
--- src/cuts.rt:86:12
 sub-t16 : tie.Need-sub-t16
 sub-t16 c = search needs
 
--- src/cuts.rt:71:1
 returns : tie.Need-returns
-returns c = 
+returns c =
     let a = (c .before .before .before .before .before .before .before .before .before .before .args) in
     record {
       is = bridge-drawn (a .n / 4) (a .state .now) ((c .before .before .before .before .before .before .before .draw) .last .0) ((c .before .before .before .before .before .draw2) .last .0) ((c .before .before .before .draw3) .last .0) _ _ _ (cc) (cc) (cc) (cc) (cc) (cc);

@@ -1,66 +1,47 @@
-use Prim.Native.Nat.{ℕ, _<_, _≤_, _*_, _-_}
+use Prim.Native.Nat.{ℕ, _-_}
 use lib.Dec.{eqb}
 use Rattle.rules.specs.Lists.{if_then_else_}
 use Rattle.rules.specs.Draws.{drawn, moved}
-use mathlib.Core.Path.{_≡_, refl}
-use Prim.Native.Nat.{_<_, _≤_, _*_}
+use mathlib.Core.Path.{_≡_}
 use native.Mathlib.Omega.{arith}
-use Rattle.rules.specs.Kicks.{kindAt, longest as longestOf}
+use Rattle.rules.specs.Kicks.{longest as longestOf}
 use Rattle.kicks.proofs.DrawingLaws.{cut-drawn, cut-long}
 use borrow.Author.Needs.{needs}
 use Rattle.kicks.proofs.cuts.draw_cut.Statement.{statement}
 use Rattle.kicks.proofs.cuts.draw_cut.Tie as tie
-use Rattle.kicks.proofs.cuts.draw_cut.Reads as reads
-use Rattle.kicks.proofs.cuts.draw_cut.Lts as lts
-use Rattle.draws.proofs.draw.Reads as draw-reads
-use Rattle.kicks.proofs.cuts.draw_middle.Reads as draw-middle-reads
-use Rattle.kicks.proofs.cuts.longest.Reads as longest-reads
-use Rattle.legs.proofs.wide.Reads as wide-reads
-use Rattle.ring.proofs.places.narrow.Reads as narrow-reads
 
--- src/cuts.rt:57:9
 longest-requires : tie.Need-longest-requires
 longest-requires c κs = search needs
 
--- src/cuts.rt:58:9
 draw-requires : tie.Need-draw-requires
 draw-requires c κs = omega (arith, cut-long ((c .before .before .args) .n) ((c .before .before .args) .kind) ((c .before .before .pre) .1 .1 .0) ((c .before .before .pre) .1 .1 .1), (c .before .longest) .ensures .is)
 
--- src/cuts.rt:59:9
 draw-middle-requires : tie.Need-draw-middle-requires
 draw-middle-requires c κs = search needs
 
--- src/cuts.rt:60:9
 draw-requires-2 : tie.Need-draw-requires-2
 draw-requires-2 c κs = search needs
 
--- src/cuts.rt:61:39
 sub-narrow : tie.Need-sub-narrow
 sub-narrow c = search needs
 
--- src/cuts.rt:61:32
 narrow-requires : tie.Need-narrow-requires
 narrow-requires c κs = search needs
 
--- src/cuts.rt:61:9
 draw-requires-3 : tie.Need-draw-requires-3
 draw-requires-3 c κs = search needs
 
--- src/cuts.rt:64:12
 wide-requires : tie.Need-wide-requires
 wide-requires c κs = search needs
 
--- src/cuts.rt:65:12
 wide-requires-2 : tie.Need-wide-requires-2
 wide-requires-2 c κs = search needs
 
--- src/cuts.rt:66:12
 wide-requires-3 : tie.Need-wide-requires-3
 wide-requires-3 c κs = search needs
 
--- src/cuts.rt:50:1
 returns : tie.Need-returns
-returns c = 
+returns c =
     let n : ℕ = (c .before .before .before .before .before .before .before .before .before .before .before .before .before .args) .n in
     let kind : ℕ = (c .before .before .before .before .before .before .before .before .before .before .before .before .before .args) .kind in
     let x : ℕ = (c .before .before .before .before .before .before .before .before .before .before .before .before .before .args) .state .now in

@@ -1,7 +1,6 @@
 use mathlib.Core.Bool.{true, false}
 use lib.Dec.{eqb}
 use mathlib.Core.Path.{_≡_, refl}
-use mathlib.Core.Path.{_≡_}
 use native.Mathlib.Omega.{arith}
 use borrow.Author.Tests.{eq-eqb, ne-eqb}
 use borrow.Author.Needs.{needs}
@@ -12,7 +11,7 @@ draw-requires : tie.Need-draw-requires
 draw-requires c κs = search needs
 
 returns : tie.Need-returns
-returns c = 
+returns c =
     let a = (c .before .before .before .args) in
     let d = (c .draw) .ensures in
     let z : a .kind ≡ 0 = omega arith in
@@ -25,7 +24,7 @@ returns c =
     }
 
 returns-2 : tie.Need-returns-2
-returns-2 c = 
+returns-2 c =
     let a = (c .before .args) in
     let e : eqb (a .kind) 0 ≡ false = ne-eqb (a .kind) 0 ((c .if1) .left) in
     record {

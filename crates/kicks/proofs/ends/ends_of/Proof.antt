@@ -2,67 +2,49 @@ use native.Mathlib.Omega.{arith}
 use borrow.Author.Needs.{needs}
 use Rattle.kicks.proofs.ends.ends_of.Statement.{statement}
 use Rattle.kicks.proofs.ends.ends_of.Tie as tie
-use Rattle.kicks.proofs.ends.ends_of.Reads as reads
-use Rattle.kicks.proofs.ends.ends_of.Lts as lts
-use Rattle.kicks.proofs.ends.stop_on.Reads as stop-on-reads
 
--- src/ends.rt:60:14
 add-ab : tie.Need-add-ab
 add-ab c = search needs
 
--- src/ends.rt:61:15
 add-abc : tie.Need-add-abc
 add-abc c = search needs
 
--- src/ends.rt:63:42
 sub-stop-on : tie.Need-sub-stop-on
 sub-stop-on c = search needs
 
--- src/ends.rt:63:12
 stop-on-requires : tie.Need-stop-on-requires
 stop-on-requires c κs = search needs
 
--- src/ends.rt:64:13
 stop-on-requires-2 : tie.Need-stop-on-requires-2
 stop-on-requires-2 c κs = search needs
 
--- src/ends.rt:65:43
 sub-stop-on-2 : tie.Need-sub-stop-on-2
 sub-stop-on-2 c = search needs
 
--- src/ends.rt:65:13
 stop-on-requires-3 : tie.Need-stop-on-requires-3
 stop-on-requires-3 c κs = search needs
 
--- src/ends.rt:66:13
 stop-on-requires-4 : tie.Need-stop-on-requires-4
 stop-on-requires-4 c κs = ((c .before .before .before .before .before .pre) .0, ((c .before .before .before .before .before .pre) .1 .0, omega (arith, (c .before .before .before .before .before .pre) .1 .1)))
 
--- src/ends.rt:67:43
 sub-stop-on-3 : tie.Need-sub-stop-on-3
 sub-stop-on-3 c = search needs
 
--- src/ends.rt:67:13
 stop-on-requires-5 : tie.Need-stop-on-requires-5
 stop-on-requires-5 c κs = search needs
 
--- src/ends.rt:68:13
 stop-on-requires-6 : tie.Need-stop-on-requires-6
 stop-on-requires-6 c κs = search needs
 
--- src/ends.rt:69:43
 sub-stop-on-4 : tie.Need-sub-stop-on-4
 sub-stop-on-4 c = omega (arith, (c .before .before .before .before .before .before .before .before .pre))
 
--- src/ends.rt:69:13
 stop-on-requires-7 : tie.Need-stop-on-requires-7
 stop-on-requires-7 c κs = ((c .before .before .before .before .before .before .before .before .pre) .0, ((c .before .before .before .before .before .before .before .before .pre) .1 .0, omega (arith, (c .before .before .before .before .before .before .before .before .pre) .1 .1)))
 
--- src/ends.rt:70:12
 stop-on-requires-8 : tie.Need-stop-on-requires-8
 stop-on-requires-8 c κs = ((c .before .before .before .before .before .before .before .before .before .pre) .0, ((c .before .before .before .before .before .before .before .before .before .pre) .1 .0, omega (arith, (c .before .before .before .before .before .before .before .before .before .pre) .1 .1)))
 
--- src/ends.rt:45:1
 returns : tie.Need-returns
 returns c = search needs
 

@@ -9,80 +9,62 @@ use Rattle.kicks.proofs.KickingLaws.{waits-as, waits-more}
 use borrow.Author.Needs.{needs}
 use Rattle.kicks.proofs.ends.push_ends.Statement.{statement}
 use Rattle.kicks.proofs.ends.push_ends.Tie as tie
-use Rattle.kicks.proofs.ends.push_ends.Reads as reads
-use Rattle.kicks.proofs.ends.push_ends.Lts as lts
-use Rattle.queue.proofs.push_all.Reads as push-all-reads
 
--- src/ends.rt:117:45
 slice-aggregate-push-all : tie.Need-slice-aggregate-push-all
 slice-aggregate-push-all c = search needs
 
--- src/ends.rt:117:9
 push-all-requires : tie.Need-push-all-requires
-push-all-requires c κs = 
+push-all-requires c κs =
     let e = (c .before .before .before .before .before .before .pre) .1 in
     ((c .before .before .before .before .before .before .pre) .0, stops-below _ _ (more (e .q-low) (more (e .p-low) (more (e .x0-low) (more (e .x1-low) (more (e .y0-low) (more (e .y1-low) (more (e .z0-low) (more (e .z1-low) none)))))))))
 
--- src/ends.rt:117:9
 same-length : tie.Need-same-length
 same-length c = search needs
 
--- src/ends.rt:117:9
 same-length-2 : tie.Need-same-length-2
 same-length-2 c = search needs
 
--- src/ends.rt:117:9
 returns : tie.Need-returns
 unfolding queued
 returns c = waits-as _ _ ((c .before .before .before .before .push-all) .ensures) _ (rw ((c .before .before .before .before .before .before .before .before .if1) .taken) refl)
 
--- src/ends.rt:120:42
 slice-aggregate-push-all-2 : tie.Need-slice-aggregate-push-all-2
 slice-aggregate-push-all-2 c = search needs
 
--- src/ends.rt:120:9
 push-all-requires-2 : tie.Need-push-all-requires-2
-push-all-requires-2 c κs = 
+push-all-requires-2 c κs =
     let e = (c .before .before .before .before .before .before .pre) .1 in
     ((c .before .before .before .before .before .before .pre) .0, stops-below _ _ (more (e .p-low) (more (e .x0-low) (more (e .x1-low) (more (e .z0-low) (more (e .z1-low) (more (e .q-low) none)))))))
 
--- src/ends.rt:122:9
 same-length-3 : tie.Need-same-length-3
 same-length-3 c = search needs
 
--- src/ends.rt:122:9
 same-length-4 : tie.Need-same-length-4
 same-length-4 c = search needs
 
--- src/ends.rt:122:9
 returns-2 : tie.Need-returns-2
 unfolding queued
-returns-2 c = 
+returns-2 c =
     let z : eqb ((c .before .before .before .before .before .before .before .before .before .before .before .before .args) .b) 0 ≡ true = eq-eqb ((c .before .before .before .before .before .before .before .before .before .before .before .before .args) .b) 0 ((c .if2) .taken) in
     waits-as _ _ ((c .before .before .before .before .before .push-all2) .ensures) _ (rw ((c .before .before .before .before .before .before .before .before .before .if1) .left, z) refl)
 
--- src/ends.rt:125:31
 slice-aggregate-push-all-3 : tie.Need-slice-aggregate-push-all-3
 slice-aggregate-push-all-3 c = search needs
 
--- src/ends.rt:125:5
 push-all-requires-3 : tie.Need-push-all-requires-3
-push-all-requires-3 c κs = 
+push-all-requires-3 c κs =
     let e = (c .before .before .before .before .before .before .before .before .before .before .before .before .before .before .before .pre) .1 in
     ((c .before .before .before .before .before .before .before .before .push-all2) .ensures .line, stops-below _ _ (rw ((c .before .before .before .before .before .before .before .before .push-all2) .kept .0) (more (e .y0-low) (more (e .y1-low) none))))
 
--- src/ends.rt:103:1
 same-length-5 : tie.Need-same-length-5
 same-length-5 c = search needs
 
--- src/ends.rt:103:1
 same-length-6 : tie.Need-same-length-6
 same-length-6 c = search needs
 
--- src/ends.rt:103:1
 returns-3 : tie.Need-returns-3
 unfolding queued
-returns-3 c = 
+returns-3 c =
     let z : eqb ((c .before .before .before .before .before .before .before .before .before .before .before .before .before .before .before .before .before .before .before .before .args) .b) 0 ≡ false = ne-eqb ((c .before .before .before .before .before .before .before .before .before .before .before .before .before .before .before .before .before .before .before .before .args) .b) 0 ((c .before .before .before .before .before .before .before .before .if2) .left) in
     waits-as _ _ (waits-more _ _ ((c .before .before .before .before .before .before .before .before .before .before .before .before .before .push-all2) .ensures) _ ((c .before .before .before .before .push-all3) .ensures)) _ (rw ((c .before .before .before .before .before .before .before .before .before .before .before .before .before .before .before .before .before .if1) .left, z) refl)
 

@@ -7,44 +7,33 @@ use Rattle.journal.proofs.GrewLaws.{grew-self}
 use borrow.Author.Needs.{needs}
 use Rattle.kicks.proofs.shuffles.exchange_drawn.Statement.{statement}
 use Rattle.kicks.proofs.shuffles.exchange_drawn.Tie as tie
-use Rattle.kicks.proofs.shuffles.exchange_drawn.Reads as reads
-use Rattle.kicks.proofs.shuffles.exchange_drawn.Lts as lts
-use Rattle.journal.proofs.swap.Reads as swap-reads
 
--- src/shuffles.rt:34:9
 returns : tie.Need-returns
-returns c = 
+returns c =
     let a = (c .before .before .before .before .args) in
     let e : eqb (a .r) (a .k) ≡ true = eq-eqb (a .r) (a .k) ((c .if1) .taken) in
     rw e (record { is = refl; tied = (c .before .before .before .before .pre) .0; good = (c .before .before .before .before .pre) .1 .1 .1 .good; grew = grew-self (a .journal .now) (a .held); high = omega arith })
 
--- src/shuffles.rt:41:15
 add-t15 : tie.Need-add-t15
 add-t15 c = search needs
 
--- src/shuffles.rt:42:15
 add-t17 : tie.Need-add-t17
 add-t17 c = search needs
 
--- src/shuffles.rt:36:5
 swap-requires : tie.Need-swap-requires
 swap-requires c κs = ((c .before .before .before .before .before .before .before .before .before .pre) .0, (omega (arith, (c .before .before .before .before .before .before .before .before .before .pre) .1), (omega (arith, (c .before .before .before .before .before .before .before .before .before .pre) .1), (c .before .before .before .before .before .before .before .before .before .pre) .1 .1 .1)))
 
--- src/shuffles.rt:18:1
 same-length : tie.Need-same-length
 same-length c = search needs
 
--- src/shuffles.rt:18:1
 same-length-2 : tie.Need-same-length-2
 same-length-2 c = search needs
 
--- src/shuffles.rt:18:1
 same-length-3 : tie.Need-same-length-3
 same-length-3 c = search needs
 
--- src/shuffles.rt:18:1
 returns-2 : tie.Need-returns-2
-returns-2 c = 
+returns-2 c =
     let e : eqb ((c .before .before .before .before .before .before .before .before .before .before .before .before .before .before .before .before .args) .r) ((c .before .before .before .before .before .before .before .before .before .before .before .before .before .before .before .before .args) .k) ≡ false = ne-eqb ((c .before .before .before .before .before .before .before .before .before .before .before .before .before .before .before .before .args) .r) ((c .before .before .before .before .before .before .before .before .before .before .before .before .before .before .before .before .args) .k) ((c .before .before .before .before .before .before .before .before .before .before .before .before .if1) .left) in
     rw e ((c .before .before .before .before .before .before .swap) .ensures)
 
