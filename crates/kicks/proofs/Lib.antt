@@ -1,5 +1,5 @@
 mod ChangeLaws
-mod DrawingLaws
+pub mod CountedLaws
 mod EndsLaws
 mod ExchangeLaws
 mod GlobalLaws

@@ -1,7 +1,7 @@
 // What a kick draws before it moves stops.
 ghost use mathlib.Core.Path.{_≡_};
-ghost use Prim.Native.Nat.{_≤_, _<_};
-ghost use Rattle.rules.specs.Kicks.{kindAt, longest as longestOf};
+ghost use Prim.Native.Nat.{_≤_};
+ghost use Rattle.rules.specs.Kicks.{kindAt};
 ghost use Rattle.kicks.specs.Drawing.{Longest, Middle, CutDrawn, BridgeDrawn};
 use draws::draw;
 use legs::Place;

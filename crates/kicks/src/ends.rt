@@ -1,8 +1,5 @@
 // The stops beside the cuts of a kick, the legs that join them, and how they are queued.
-ghost use mathlib.Core.Path.{_≡_};
-ghost use mathlib.Core.Bool.{Bool, true, false};
-ghost use mathlib.Core.List.{List};
-ghost use Prim.Native.Nat.{ℕ, _+_, _<_};
+ghost use Prim.Native.Nat.{_+_, _<_};
 ghost use lib.ListN.{length};
 ghost use Rattle.rules.specs.Plan.{legIn};
 ghost use Rattle.rules.specs.Queue.{pushAll, waiting};

@@ -11,6 +11,7 @@ pub mod FlipLaws
 pub mod GainLaws
 pub mod JournalLaws
 pub mod JournalWordLaws
+pub mod KickKindLaws
 pub mod KickLaws
 pub mod KickTimeLaws
 pub mod KickedLaws

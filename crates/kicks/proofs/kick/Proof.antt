@@ -5,7 +5,8 @@ use Rattle.rules.specs.Plan.{legIn}
 use Rattle.rules.specs.Journal.{trackOf}
 use Rattle.rules.specs.Kicks.{kindAt}
 use Rattle.kicks.proofs.ExchangeLaws.{exchange-segment}
-use Rattle.kicks.proofs.GlobalLaws.{kind-stays, kick-global, kick-segment}
+use Rattle.laws.proofs.KickKindLaws.{kind-stays, kick-global, kick-segment}
+use Rattle.kicks.specs.Kicking.{globalDrawn}
 use Rattle.kicks.proofs.KickingLaws.{ready-fewer, made-wider}
 use borrow.Author.Needs.{needs}
 use Rattle.kicks.proofs.kick.Statement.{statement}
@@ -36,7 +37,7 @@ same-length-6 : tie.Need-same-length-6
 same-length-6 c = search needs
 
 returns : tie.Need-returns
-unfolding trackOf
+unfolding trackOf globalDrawn
 returns c =
     let a = (c .before .before .before .before .before .before .before .before .before .before .before .before .before .before .before .before .before .before .before .before .before .before .before .before .before .before .before .before .before .args) in
     let two : kindAt (length (a .round .now)) (a .kind) ≡ 2 = omega (arith, (c .before .before .before .before .before .before .before .before .before .before .before .before .before .before .before .before .before .before .before .before .before .kind-at) .ensures, (c .before .before .before .before .before .before .before .before .before .before .before .before .before .before .before .before .before .before .before .before .if1) .taken) in

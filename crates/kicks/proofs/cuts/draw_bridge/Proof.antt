@@ -1,5 +1,5 @@
 use Prim.Native.Nat.{_/_}
-use Rattle.kicks.proofs.DrawingLaws.{bridge-drawn}
+use Rattle.laws.proofs.KickKindLaws.{bridge-drawn}
 use borrow.Author.Needs.{needs}
 use Rattle.kicks.proofs.cuts.draw_bridge.Statement.{statement}
 use Rattle.kicks.proofs.cuts.draw_bridge.Tie as tie

@@ -5,7 +5,7 @@ use Rattle.rules.specs.Draws.{drawn, moved}
 use mathlib.Core.Path.{_≡_}
 use native.Mathlib.Omega.{arith}
 use Rattle.rules.specs.Kicks.{longest as longestOf}
-use Rattle.kicks.proofs.DrawingLaws.{cut-drawn, cut-long}
+use Rattle.laws.proofs.KickKindLaws.{cut-drawn, cut-long}
 use borrow.Author.Needs.{needs}
 use Rattle.kicks.proofs.cuts.draw_cut.Statement.{statement}
 use Rattle.kicks.proofs.cuts.draw_cut.Tie as tie
@@ -17,10 +17,10 @@ draw-requires : tie.Need-draw-requires
 draw-requires c κs = omega (arith, cut-long ((c .before .before .args) .n) ((c .before .before .args) .kind) ((c .before .before .pre) .1 .1 .0) ((c .before .before .pre) .1 .1 .1), (c .before .longest) .ensures .is)
 
 draw-middle-requires : tie.Need-draw-middle-requires
-draw-middle-requires c κs = search needs
+draw-middle-requires c κs = omega (arith, cut-long ((c .before .before .before .before .args) .n) ((c .before .before .before .before .args) .kind) ((c .before .before .before .before .pre) .1 .1 .0) ((c .before .before .before .before .pre) .1 .1 .1), (c .before .before .before .longest) .ensures .is)
 
 draw-requires-2 : tie.Need-draw-requires-2
-draw-requires-2 c κs = search needs
+draw-requires-2 c κs = omega (arith, cut-long ((c .before .before .before .before .before .before .args) .n) ((c .before .before .before .before .before .before .args) .kind) ((c .before .before .before .before .before .before .pre) .1 .1 .0) ((c .before .before .before .before .before .before .pre) .1 .1 .1), (c .before .before .before .before .before .longest) .ensures .is)
 
 sub-narrow : tie.Need-sub-narrow
 sub-narrow c = search needs

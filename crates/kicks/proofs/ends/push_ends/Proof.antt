@@ -1,5 +1,6 @@
 use mathlib.Core.Path.{_≡_, refl}
 use mathlib.Core.Bool.{true, false}
+use native.Mathlib.Omega.{arith}
 use lib.Dec.{eqb}
 use borrow.Author.Tests.{eq-eqb, ne-eqb}
 use Rattle.laws.proofs.EveryLaws.{more, none}
@@ -16,7 +17,7 @@ slice-aggregate-push-all c = search needs
 push-all-requires : tie.Need-push-all-requires
 push-all-requires c κs =
     let e = (c .before .before .before .before .before .before .pre) .1 in
-    ((c .before .before .before .before .before .before .pre) .0, stops-below _ _ (more (e .q-low) (more (e .p-low) (more (e .x0-low) (more (e .x1-low) (more (e .y0-low) (more (e .y1-low) (more (e .z0-low) (more (e .z1-low) none)))))))))
+    ((c .before .before .before .before .before .before .pre) .0, stops-below _ _ (more (omega arith) (more (omega arith) (more (omega arith) (more (omega arith) (more (omega arith) (more (omega arith) (more (omega arith) (more (omega arith) none)))))))))
 
 same-length : tie.Need-same-length
 same-length c = search needs
@@ -34,7 +35,7 @@ slice-aggregate-push-all-2 c = search needs
 push-all-requires-2 : tie.Need-push-all-requires-2
 push-all-requires-2 c κs =
     let e = (c .before .before .before .before .before .before .pre) .1 in
-    ((c .before .before .before .before .before .before .pre) .0, stops-below _ _ (more (e .p-low) (more (e .x0-low) (more (e .x1-low) (more (e .z0-low) (more (e .z1-low) (more (e .q-low) none)))))))
+    ((c .before .before .before .before .before .before .pre) .0, stops-below _ _ (more (omega arith) (more (omega arith) (more (omega arith) (more (omega arith) (more (omega arith) (more (omega arith) none)))))))
 
 same-length-3 : tie.Need-same-length-3
 same-length-3 c = search needs
@@ -54,7 +55,7 @@ slice-aggregate-push-all-3 c = search needs
 push-all-requires-3 : tie.Need-push-all-requires-3
 push-all-requires-3 c κs =
     let e = (c .before .before .before .before .before .before .before .before .before .before .before .before .before .before .before .pre) .1 in
-    ((c .before .before .before .before .before .before .before .before .push-all2) .ensures .line, stops-below _ _ (rw ((c .before .before .before .before .before .before .before .before .push-all2) .kept .0) (more (e .y0-low) (more (e .y1-low) none))))
+    ((c .before .before .before .before .before .before .before .before .push-all2) .ensures .line, stops-below _ _ (more (omega (arith, (c .before .before .before .before .before .before .before .before .push-all2) .kept .0)) (more (omega (arith, (c .before .before .before .before .before .before .before .before .push-all2) .kept .0)) none)))
 
 same-length-5 : tie.Need-same-length-5
 same-length-5 c = search needs

@@ -39,7 +39,7 @@ loop-again c =
     let lp = (c .before .before .before .before .before .before .before .before .before .before .before .before .before .loop) in
     let m = (c .before .before .before .before .before .before .exchange-drawn) in
     let v : (c .before .before .before .before .before .before .before .before .before .before .draw) .result ≡ drawn 0 (lp .k - 1) (moved (lp .state)) = omega (arith, (c .before .before .before .before .before .before .before .before .before .before .draw) .ensures .is) in
-    (shuffle-turn (a .start .0) (a .len) (a .state .now) (a .round .now) (a .journal .now) (a .held) _ _ _ _ _ _ (lp .inv .0) _ _ _ _ _ ((c .before .before .before .before .before .before .before .before .before .before .draw) .result) ((c .before .before .before .before .before .before .before .before .before .before .before .before .loop-test) .taken) ((c .before .before .before .before .before .before .before .before .before .before .draw) .ensures .state) ((c .before .before .before .before .before .before .before .before .before .before .draw) .ensures .some) v (m .ensures), (m .kept .0 ∙ lp .inv .1 .0, (m .kept .1 .0 ∙ lp .inv .1 .1 .0, m .kept .1 .1 .0 ∙ lp .inv .1 .1 .1)))
+    (shuffle-turn (a .start .0) (a .len) (a .state .now) (a .round .now) (a .journal .now) (a .held) _ _ _ _ _ _ (lp .inv .0) _ _ _ _ _ ((c .before .before .before .before .before .before .before .before .before .before .draw) .result) (omega (arith, (c .before .before .before .before .before .before .before .before .before .before .before .before .loop-test) .taken)) ((c .before .before .before .before .before .before .before .before .before .before .draw) .ensures .state) ((c .before .before .before .before .before .before .before .before .before .before .draw) .ensures .some) v (m .ensures), (m .kept .0 ∙ lp .inv .1 .0, (m .kept .1 .0 ∙ lp .inv .1 .1 .0, m .kept .1 .1 .0 ∙ lp .inv .1 .1 .1)))
 
 same-length : tie.Need-same-length Inv-loop μ-loop
 same-length c = search needs
