@@ -13,6 +13,7 @@ pub mod GainLaws
 pub mod InLaws
 pub mod JournalLaws
 pub mod JournalWordLaws
+pub mod KickKindLaws
 pub mod KickLaws
 pub mod KickTimeLaws
 pub mod KickedLaws

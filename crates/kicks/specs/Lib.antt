@@ -1,0 +1,3 @@
+pub mod Exchanging
+pub mod Drawing
+pub mod Kicking
