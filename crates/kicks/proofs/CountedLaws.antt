@@ -13,7 +13,7 @@ use Rattle.rules.specs.State.{State}
 use Rattle.laws.proofs.TiedLaws.{tied-perm}
 use Rattle.laws.proofs.KickLaws.{Kicks as Counts}
 use Rattle.laws.proofs.KickedLaws.{kick-kicks, kicked-some}
-use Rattle.queue.proofs.LineLaws.{length-waiting}
+use Rattle.laws.proofs.WaitLaws.{waiting-length}
 use Rattle.kicks.specs.Kicking.{Ready, Kicks}
 
 module _ (d : Legs) (kind x : ℕ) {matrix : List Time} {r : Round} {places : List Place} {journal : List ℕ} {held free : ℕ} {queue flags : List ℕ} {head : Place} {count : ℕ} (g : Ready matrix r places journal held free queue flags head count)
@@ -35,4 +35,4 @@ module _ (d : Legs) (kind x : ℕ) {matrix : List Time} {r : Round} {places : Li
   kick-waits =
       let s : State = record { track = trackOf r journal held; queue = waiting queue head count; time = 0 } in
       let some : 0 < length (pushAll (waiting queue head count) (kick d kind x (trackOf r journal held) .made .touched)) = kicked-some d s (kick d kind x (trackOf r journal held) .made) 30 counts in
-      omega (arith, some, ap length (k .made .waits .is), length-waiting queue′ head′ count′ (k .made .waits .line .room))
+      omega (arith, some, ap length (k .made .waits .is), waiting-length queue′ head′ count′ (k .made .waits .line .room))

@@ -2,7 +2,7 @@ use mathlib.Core.Bool.{true, false}
 use borrow.Author.Tests.{leb-false}
 use lib.Dec.{leb, eqb}
 use Prim.Native.Nat.{_+_, _-_, _<_, _≤_}
-use mathlib.Core.Path.{_≡_, refl, sym, _∙_}
+use mathlib.Core.Path.{_≡_, sym, _∙_}
 use mathlib.Core.Logic.{⊎-elim}
 use native.Mathlib.Omega.{arith}
 use lib.ListN.{length}
@@ -96,10 +96,10 @@ thirds-again c =
     let t3 = (c .before .before .before .before .listed) in
     let d23 = (c .before .before .before .dist2) in
     let hi : i < length (list (t2 .result .0)) = omega (arith, length-list (a .near .now) (a .k) (length r) (t2 .result .0) (p .lists) (t2 .ensures .below), (c .before .before .before .before .before .thirds-test) .taken) in
-    let leg : d23 .result ≡ d (t2 .result .0) (t3 .result .0) = (d23 .ensures .is) in
-    let on : leb (d12 .result) (d23 .result) ≡ false = ((c .before .if1) .left) in
-    let barred : (c .before .before .either) .result ≡ true = ((c .if2) .taken) in
-    record { yet = (c .before .before .before .before .before .before .thirds) .inv .yet; within = omega (arith, (c .before .before .before .before .before .thirds-test) .taken); finds = sym (skip3 d list (a .fwd) r (a .t1 .0) (t2 .result .0) (d12 .result) i (t3 .result .0) (d23 .result) hi (t3 .ensures .is) leg on ((c .before .before .either) .result) ((c .before .before .before .before .before .before .before .before .before .ahead2) .result .0) ((c .before .before .before .before .before .before .before .before .before .ahead2) .ensures .is) ((c .before .before .either) .ensures) barred) ∙ (c .before .before .before .before .before .before .thirds) .inv .finds }
+    let leg : d23 .result ≡ d (t2 .result .0) (t3 .result .0) = cc (d23 .ensures .is) in
+    let on : leb (d12 .result) (d23 .result) ≡ false = cc ((c .before .if1) .left) in
+    let barred : (c .before .before .either) .result ≡ true = cc ((c .if2) .taken) in
+    record { yet = (c .before .before .before .before .before .before .thirds) .inv .yet; within = omega (arith, (c .before .before .before .before .before .thirds-test) .taken); finds = sym (skip3 d list (a .fwd) r (a .t1 .0) (t2 .result .0) (d12 .result) i (t3 .result .0) (d23 .result) hi (cc (t3 .ensures .is)) leg on ((c .before .before .either) .result) ((c .before .before .before .before .before .before .before .before .before .ahead2) .result .0) ((c .before .before .before .before .before .before .before .before .before .ahead2) .ensures .is) ((c .before .before .either) .ensures) barred) ∙ (c .before .before .before .before .before .before .thirds) .inv .finds }
 
 sub-g1 : tie.Need-sub-g1 Inv-fifths μ-fifths Inv-sides μ-sides Inv-thirds μ-thirds
 sub-g1 c = omega (arith, leb-false ((c .before .before .before .before .before .before .before .before .dist) .result) ((c .before .before .before .dist2) .result) ((c .before .if1) .left))
@@ -117,10 +117,10 @@ sides-holds c =
     let t3 = (c .before .before .before .before .listed) in
     let d23 = (c .before .before .before .dist2) in
     let hi : i < length (list (t2 .result .0)) = omega (arith, length-list (a .near .now) (a .k) (length r) (t2 .result .0) (p .lists) (t2 .ensures .below), (c .before .before .before .before .before .thirds-test) .taken) in
-    let leg : d23 .result ≡ d (t2 .result .0) (t3 .result .0) = (d23 .ensures .is) in
-    let on : leb (d12 .result) (d23 .result) ≡ false = ((c .before .if1) .left) in
-    let free : (c .before .before .either) .result ≡ false = ((c .if2) .left) in
-    record { yet = (c .before .before .before .before .before .before .thirds) .inv .yet; within = search needs; finds = sym (try3 d list (a .fwd) r (a .t1 .0) (t2 .result .0) (d12 .result) i (t3 .result .0) (d23 .result) hi (t3 .ensures .is) leg on ((c .before .before .either) .result) ((c .before .before .before .before .before .before .before .before .before .ahead2) .result .0) ((c .before .before .before .before .before .before .before .before .before .ahead2) .ensures .is) ((c .before .before .either) .ensures) free) ∙ (c .before .before .before .before .before .before .thirds) .inv .finds }
+    let leg : d23 .result ≡ d (t2 .result .0) (t3 .result .0) = cc (d23 .ensures .is) in
+    let on : leb (d12 .result) (d23 .result) ≡ false = cc ((c .before .if1) .left) in
+    let free : (c .before .before .either) .result ≡ false = cc ((c .if2) .left) in
+    record { yet = (c .before .before .before .before .before .before .thirds) .inv .yet; within = search needs; finds = sym (try3 d list (a .fwd) r (a .t1 .0) (t2 .result .0) (d12 .result) i (t3 .result .0) (d23 .result) hi (cc (t3 .ensures .is)) leg on ((c .before .before .either) .result) ((c .before .before .before .before .before .before .before .before .before .ahead2) .result .0) ((c .before .before .before .before .before .before .before .before .before .ahead2) .ensures .is) ((c .before .before .either) .ensures) free) ∙ (c .before .before .before .before .before .before .thirds) .inv .finds }
 
 thirds-less-2 : tie.Need-thirds-less-2 Inv-fifths μ-fifths Inv-sides μ-sides Inv-thirds μ-thirds
 thirds-less-2 c = omega (arith, (c .before .before .before .before .before .before .before .thirds-test) .taken)
@@ -176,8 +176,8 @@ fifths-holds c =
     let s = (c .before .before .before .before .before .before .before .before .sides) .side in
     let t4 = (c .before .before .before .before .before .before .beside) in
     let d34 = (c .before .before .before .before .before .dist3) in
-    let leg : d34 .result ≡ d (t3 .result .0) (t4 .result .0) = (d34 .ensures .is) in
-    record { yet = (c .before .before .before .before .before .before .before .before .sides) .inv .yet; within = search needs; finds = sym (miss4 d list (a .fwd) r (a .t1 .0) (t2 .result .0) (t3 .result .0) (d12 .result - d23 .result) s (d12 .result) (i + 1) _ (t4 .result .0) (d34 .result) ((c .before .before .before .before .before .before .before .sides-test) .taken) (t4 .ensures .is) refl leg _ _ _ _ _ _ ((c .before .before .before .before .try-two) .ensures .is) ((c .before .before .if3) .left)) ∙ (c .before .before .before .before .before .before .before .before .sides) .inv .finds }
+    let leg : d34 .result ≡ d (t3 .result .0) (t4 .result .0) = cc (d34 .ensures .is) in
+    record { yet = (c .before .before .before .before .before .before .before .before .sides) .inv .yet; within = search needs; finds = sym (miss4 d list (a .fwd) r (a .t1 .0) (t2 .result .0) (t3 .result .0) (d12 .result - d23 .result) s (d12 .result) (i + 1) _ (t4 .result .0) (d34 .result) ((c .before .before .before .before .before .before .before .sides-test) .taken) (t4 .ensures .is) (cc) leg _ _ _ _ _ _ ((c .before .before .before .before .try-two) .ensures .is) ((c .before .before .if3) .left)) ∙ (c .before .before .before .before .before .before .before .before .sides) .inv .finds }
 
 listed-requires-2 :
     tie.Need-listed-requires-2 Inv-fifths μ-fifths Inv-sides μ-sides Inv-thirds μ-thirds
@@ -216,10 +216,10 @@ fifths-again c =
     let t5 = (c .before .before .before .before .listed2) in
     let d45 = (c .before .before .before .dist4) in
     let hj : j < length (list (t4 .result .0)) = omega (arith, length-list (a .near .now) (a .k) (length r) (t4 .result .0) (p .lists) (t4 .ensures .below), (c .before .before .before .before .before .fifths-test) .taken) in
-    let leg : d45 .result ≡ d (t4 .result .0) (t5 .result .0) = (d45 .ensures .is) in
-    let on : leb ((d12 .result - d23 .result) + d34 .result) (d45 .result) ≡ false = ((c .before .if4) .left) in
-    let barred : (c .before .before .any-of) .result ≡ true = ((c .if5) .taken) in
-    record { yet = (c .before .before .before .before .before .before .fifths) .inv .yet; within = omega (arith, (c .before .before .before .before .before .fifths-test) .taken); finds = sym (skip5 d list (a .fwd) r (a .t1 .0) (t2 .result .0) (eqb s 1) (t3 .result .0) (t4 .result .0) ((d12 .result - d23 .result) + d34 .result) j (d12 .result - d23 .result) (s + 1) (d12 .result) (i + 1) (t5 .result .0) (d45 .result) hj (t5 .ensures .is) leg on ((c .before .before .any-of) .result) ((c .before .before .before .before .before .before .before .before .succ) .result .0) ((c .before .before .before .before .before .before .before .pred) .result .0) ((c .before .before .before .before .before .before .before .before .succ) .ensures .is) ((c .before .before .before .before .before .before .before .pred) .ensures .is) ((c .before .before .any-of) .ensures) barred) ∙ (c .before .before .before .before .before .before .fifths) .inv .finds }
+    let leg : d45 .result ≡ d (t4 .result .0) (t5 .result .0) = cc (d45 .ensures .is) in
+    let on : leb ((d12 .result - d23 .result) + d34 .result) (d45 .result) ≡ false = cc ((c .before .if4) .left) in
+    let barred : (c .before .before .any-of) .result ≡ true = cc ((c .if5) .taken) in
+    record { yet = (c .before .before .before .before .before .before .fifths) .inv .yet; within = omega (arith, (c .before .before .before .before .before .fifths-test) .taken); finds = sym (skip5 d list (a .fwd) r (a .t1 .0) (t2 .result .0) (eqb s 1) (t3 .result .0) (t4 .result .0) ((d12 .result - d23 .result) + d34 .result) j (d12 .result - d23 .result) (s + 1) (d12 .result) (i + 1) (t5 .result .0) (d45 .result) hj (cc (t5 .ensures .is)) leg on ((c .before .before .any-of) .result) ((c .before .before .before .before .before .before .before .before .succ) .result .0) ((c .before .before .before .before .before .before .before .pred) .result .0) ((c .before .before .before .before .before .before .before .before .succ) .ensures .is) ((c .before .before .before .before .before .before .before .pred) .ensures .is) ((c .before .before .any-of) .ensures) barred) ∙ (c .before .before .before .before .before .before .fifths) .inv .finds }
 
 sub-g3 : tie.Need-sub-g3 Inv-fifths μ-fifths Inv-sides μ-sides Inv-thirds μ-thirds
 sub-g3 c = omega (arith, leb-false ((c .before .before .before .before .before .before .before .before .before .before .before .before .before .before .before .before .before .before .before .before .before .before .before .before .dist) .result - (c .before .before .before .before .before .before .before .before .before .before .before .before .before .before .before .before .before .before .before .dist2) .result + (c .before .before .before .before .before .before .before .before .before .before .before .before .dist3) .result) ((c .before .before .before .dist4) .result) ((c .before .if4) .left))
@@ -250,10 +250,10 @@ fifths-again-2 c =
     let t5 = (c .before .before .before .before .before .before .before .listed2) in
     let d45 = (c .before .before .before .before .before .before .dist4) in
     let hj : j < length (list (t4 .result .0)) = omega (arith, length-list (a .near .now) (a .k) (length r) (t4 .result .0) (p .lists) (t4 .ensures .below), (c .before .before .before .before .before .before .before .before .fifths-test) .taken) in
-    let leg : d45 .result ≡ d (t4 .result .0) (t5 .result .0) = (d45 .ensures .is) in
-    let on : leb ((d12 .result - d23 .result) + d34 .result) (d45 .result) ≡ false = ((c .before .before .before .before .if4) .left) in
-    let free : (c .before .before .before .before .before .any-of) .result ≡ false = ((c .before .before .before .if5) .left) in
-    record { yet = (c .before .before .before .before .before .before .before .before .before .fifths) .inv .yet; within = omega (arith, (c .before .before .before .before .before .before .before .before .fifths-test) .taken); finds = sym (miss5 d list (a .fwd) r (a .t1 .0) (t2 .result .0) (eqb s 1) (t3 .result .0) (t4 .result .0) ((d12 .result - d23 .result) + d34 .result) j (d12 .result - d23 .result) (s + 1) (d12 .result) (i + 1) (t5 .result .0) (d45 .result) hj (t5 .ensures .is) leg on ((c .before .before .before .before .before .any-of) .result) ((c .before .before .before .before .before .before .before .before .before .before .before .succ) .result .0) ((c .before .before .before .before .before .before .before .before .before .before .pred) .result .0) ((c .before .before .before .before .before .before .before .before .before .before .before .succ) .ensures .is) ((c .before .before .before .before .before .before .before .before .before .before .pred) .ensures .is) ((c .before .before .before .before .before .any-of) .ensures) free _ _ _ _ _ _ ((c .before .before .try-fifth) .ensures .is) ((c .if6) .left)) ∙ (c .before .before .before .before .before .before .before .before .before .fifths) .inv .finds }
+    let leg : d45 .result ≡ d (t4 .result .0) (t5 .result .0) = cc (d45 .ensures .is) in
+    let on : leb ((d12 .result - d23 .result) + d34 .result) (d45 .result) ≡ false = cc ((c .before .before .before .before .if4) .left) in
+    let free : (c .before .before .before .before .before .any-of) .result ≡ false = cc ((c .before .before .before .if5) .left) in
+    record { yet = (c .before .before .before .before .before .before .before .before .before .fifths) .inv .yet; within = omega (arith, (c .before .before .before .before .before .before .before .before .fifths-test) .taken); finds = sym (miss5 d list (a .fwd) r (a .t1 .0) (t2 .result .0) (eqb s 1) (t3 .result .0) (t4 .result .0) ((d12 .result - d23 .result) + d34 .result) j (d12 .result - d23 .result) (s + 1) (d12 .result) (i + 1) (t5 .result .0) (d45 .result) hj (cc (t5 .ensures .is)) leg on ((c .before .before .before .before .before .any-of) .result) ((c .before .before .before .before .before .before .before .before .before .before .before .succ) .result .0) ((c .before .before .before .before .before .before .before .before .before .before .pred) .result .0) ((c .before .before .before .before .before .before .before .before .before .before .before .succ) .ensures .is) ((c .before .before .before .before .before .before .before .before .before .before .pred) .ensures .is) ((c .before .before .before .before .before .any-of) .ensures) free _ _ _ _ _ _ ((c .before .before .try-fifth) .ensures .is) ((c .if6) .left)) ∙ (c .before .before .before .before .before .before .before .before .before .fifths) .inv .finds }
 
 add-side : tie.Need-add-side Inv-fifths μ-fifths Inv-sides μ-sides Inv-thirds μ-thirds
 add-side c = omega (arith, (c .before .before .before .before .before .before .before .before .before .sides-test) .taken)
@@ -281,7 +281,7 @@ sides-again c =
     = ⊎-elim (λ w. sym (done5 d list (a .fwd) r (a .t1 .0) (t2 .result .0) (eqb s 1) (t3 .result .0) (t4 .result .0) ((d12 .result - d23 .result) + d34 .result) j (d12 .result - d23 .result) (s + 1) (d12 .result) (i + 1) (omega (arith, length-list (a .near .now) (a .k) (length r) (t4 .result .0) (p .lists) (t4 .ensures .below), w .0 .left))) ∙ (c .before .fifths) .inv .finds)
     (λ w.
     let hj : j < length (list (t4 .result .0)) = omega (arith, length-list (a .near .now) (a .k) (length r) (t4 .result .0) (p .lists) (t4 .ensures .below), w .0 .taken) in
-    sym (stop5 d list (a .fwd) r (a .t1 .0) (t2 .result .0) (eqb s 1) (t3 .result .0) (t4 .result .0) ((d12 .result - d23 .result) + d34 .result) j (d12 .result - d23 .result) (s + 1) (d12 .result) (i + 1) (w .1 .result .0) (w .2 .result) hj (w .1 .ensures .is) (w .2 .ensures .is) (w .4 .taken)) ∙ (c .before .fifths) .inv .finds)
+    sym (stop5 d list (a .fwd) r (a .t1 .0) (t2 .result .0) (eqb s 1) (t3 .result .0) (t4 .result .0) ((d12 .result - d23 .result) + d34 .result) j (d12 .result - d23 .result) (s + 1) (d12 .result) (i + 1) (w .1 .result .0) (w .2 .result) hj (cc (w .1 .ensures .is)) (cc (w .2 .ensures .is)) (cc (w .4 .taken))) ∙ (c .before .fifths) .inv .finds)
     ((c .fifths-test) .came) in
     record { yet = (c .before .fifths) .inv .yet; within = omega (arith, (c .before .before .before .before .before .before .before .before .before .sides-test) .taken); finds = rest }
 
@@ -311,9 +311,9 @@ returns-2 c =
     let t3 = (c .before .before .before .listed) in
     let d23 = (c .before .before .dist2) in
     let hi : i < length (list (t2 .result .0)) = omega (arith, length-list (a .near .now) (a .k) (length r) (t2 .result .0) (p .lists) (t2 .ensures .below), (c .before .before .before .before .thirds-test) .taken) in
-    let leg : d23 .result ≡ d (t2 .result .0) (t3 .result .0) = (d23 .ensures .is) in
-    let over : leb (d12 .result) (d23 .result) ≡ true = ((c .if1) .taken) in
-    chosen-is (sym (stop3 d list (a .fwd) r (a .t1 .0) (t2 .result .0) (d12 .result) i (t3 .result .0) (d23 .result) hi (t3 .ensures .is) leg over) ∙ (c .before .before .before .before .before .thirds) .inv .finds) ((c .before .before .before .before .before .thirds) .inv .yet)
+    let leg : d23 .result ≡ d (t2 .result .0) (t3 .result .0) = cc (d23 .ensures .is) in
+    let over : leb (d12 .result) (d23 .result) ≡ true = cc ((c .if1) .taken) in
+    chosen-is (sym (stop3 d list (a .fwd) r (a .t1 .0) (t2 .result .0) (d12 .result) i (t3 .result .0) (d23 .result) hi (cc (t3 .ensures .is)) leg over) ∙ (c .before .before .before .before .before .thirds) .inv .finds) ((c .before .before .before .before .before .thirds) .inv .yet)
 
 returns-3 : tie.Need-returns-3 Inv-fifths μ-fifths Inv-sides μ-sides Inv-thirds μ-thirds
 returns-3 c =
@@ -330,8 +330,8 @@ returns-3 c =
     let s = (c .before .before .before .before .before .before .sides) .side in
     let t4 = (c .before .before .before .before .beside) in
     let d34 = (c .before .before .before .dist3) in
-    let leg : d34 .result ≡ d (t3 .result .0) (t4 .result .0) = (d34 .ensures .is) in
-    chosen-is (sym ((c .before .before .try-two) .ensures .is) ∙ sym (hit4 d list (a .fwd) r (a .t1 .0) (t2 .result .0) (t3 .result .0) (d12 .result - d23 .result) s (d12 .result) (i + 1) _ (t4 .result .0) (d34 .result) ((c .before .before .before .before .before .sides-test) .taken) (t4 .ensures .is) refl leg _ _ _ _ _ _ ((c .before .before .try-two) .ensures .is) ((c .if3) .taken)) ∙ (c .before .before .before .before .before .before .sides) .inv .finds) ((c .before .before .try-two) .ensures)
+    let leg : d34 .result ≡ d (t3 .result .0) (t4 .result .0) = cc (d34 .ensures .is) in
+    chosen-is (sym ((c .before .before .try-two) .ensures .is) ∙ sym (hit4 d list (a .fwd) r (a .t1 .0) (t2 .result .0) (t3 .result .0) (d12 .result - d23 .result) s (d12 .result) (i + 1) _ (t4 .result .0) (d34 .result) ((c .before .before .before .before .before .sides-test) .taken) (t4 .ensures .is) (cc) leg _ _ _ _ _ _ ((c .before .before .try-two) .ensures .is) ((c .if3) .taken)) ∙ (c .before .before .before .before .before .before .sides) .inv .finds) ((c .before .before .try-two) .ensures)
 
 returns-4 : tie.Need-returns-4 Inv-fifths μ-fifths Inv-sides μ-sides Inv-thirds μ-thirds
 returns-4 c =
@@ -352,10 +352,10 @@ returns-4 c =
     let t5 = (c .before .before .before .before .before .before .before .listed2) in
     let d45 = (c .before .before .before .before .before .before .dist4) in
     let hj : j < length (list (t4 .result .0)) = omega (arith, length-list (a .near .now) (a .k) (length r) (t4 .result .0) (p .lists) (t4 .ensures .below), (c .before .before .before .before .before .before .before .before .fifths-test) .taken) in
-    let leg : d45 .result ≡ d (t4 .result .0) (t5 .result .0) = (d45 .ensures .is) in
-    let on : leb ((d12 .result - d23 .result) + d34 .result) (d45 .result) ≡ false = ((c .before .before .before .before .if4) .left) in
-    let free : (c .before .before .before .before .before .any-of) .result ≡ false = ((c .before .before .before .if5) .left) in
-    chosen-is (sym ((c .before .before .try-fifth) .ensures .is) ∙ sym (hit5 d list (a .fwd) r (a .t1 .0) (t2 .result .0) (eqb s 1) (t3 .result .0) (t4 .result .0) ((d12 .result - d23 .result) + d34 .result) j (d12 .result - d23 .result) (s + 1) (d12 .result) (i + 1) (t5 .result .0) (d45 .result) hj (t5 .ensures .is) leg on ((c .before .before .before .before .before .any-of) .result) ((c .before .before .before .before .before .before .before .before .before .before .before .succ) .result .0) ((c .before .before .before .before .before .before .before .before .before .before .pred) .result .0) ((c .before .before .before .before .before .before .before .before .before .before .before .succ) .ensures .is) ((c .before .before .before .before .before .before .before .before .before .before .pred) .ensures .is) ((c .before .before .before .before .before .any-of) .ensures) free _ _ _ _ _ _ ((c .before .before .try-fifth) .ensures .is) ((c .if6) .taken)) ∙ (c .before .before .before .before .before .before .before .before .before .fifths) .inv .finds) ((c .before .before .try-fifth) .ensures)
+    let leg : d45 .result ≡ d (t4 .result .0) (t5 .result .0) = cc (d45 .ensures .is) in
+    let on : leb ((d12 .result - d23 .result) + d34 .result) (d45 .result) ≡ false = cc ((c .before .before .before .before .if4) .left) in
+    let free : (c .before .before .before .before .before .any-of) .result ≡ false = cc ((c .before .before .before .if5) .left) in
+    chosen-is (sym ((c .before .before .try-fifth) .ensures .is) ∙ sym (hit5 d list (a .fwd) r (a .t1 .0) (t2 .result .0) (eqb s 1) (t3 .result .0) (t4 .result .0) ((d12 .result - d23 .result) + d34 .result) j (d12 .result - d23 .result) (s + 1) (d12 .result) (i + 1) (t5 .result .0) (d45 .result) hj (cc (t5 .ensures .is)) leg on ((c .before .before .before .before .before .any-of) .result) ((c .before .before .before .before .before .before .before .before .before .before .before .succ) .result .0) ((c .before .before .before .before .before .before .before .before .before .before .pred) .result .0) ((c .before .before .before .before .before .before .before .before .before .before .before .succ) .ensures .is) ((c .before .before .before .before .before .before .before .before .before .before .pred) .ensures .is) ((c .before .before .before .before .before .any-of) .ensures) free _ _ _ _ _ _ ((c .before .before .try-fifth) .ensures .is) ((c .if6) .taken)) ∙ (c .before .before .before .before .before .before .before .before .before .fifths) .inv .finds) ((c .before .before .try-fifth) .ensures)
 
 pub find-move-spec : {M : Type 1} → statement M
 find-move-spec =

@@ -32,7 +32,7 @@ returns c =
     let i = (c .before .before .before .before .between-dir) in
     let b = (c .before .before .before .beside) in
     let g = (c .before .closed) in
-    let leg : (c .before .before .dist) .result ≡ d (a .t5 .0) (b .result .0) = ((c .before .before .dist) .ensures .is) in
+    let leg : (c .before .before .dist) .result ≡ d (a .t5 .0) (b .result .0) = cc ((c .before .before .dist) .ensures .is) in
     record { is = before-gains d (a .fwd) r (a .t1 .0) (a .t2 .0) (a .t3 .0) (a .t4 .0) (a .t5 .0) (a .g3) (i .result) (b .result .0) ((c .before .before .dist) .result) (g .result) (i .ensures) (b .ensures .is) leg (g .ensures) ((c .if1) .taken); low3 = p .low3; low4 = p .low4; low5 = p .low5; low6 = b .ensures .below }
 
 no-move-requires : tie.Need-no-move-requires
@@ -47,7 +47,7 @@ returns-2 c =
     let i = (c .before .before .before .before .before .between-dir) in
     let b = (c .before .before .before .before .beside) in
     let g = (c .before .before .closed) in
-    let leg : (c .before .before .before .dist) .result ≡ d (a .t5 .0) (b .result .0) = ((c .before .before .before .dist) .ensures .is) in
+    let leg : (c .before .before .before .dist) .result ≡ d (a .t5 .0) (b .result .0) = cc ((c .before .before .before .dist) .ensures .is) in
     chosen-is (before-fails d (a .fwd) r (a .t1 .0) (a .t2 .0) (a .t3 .0) (a .t4 .0) (a .t5 .0) (a .g3) (i .result) (b .result .0) ((c .before .before .before .dist) .result) (g .result) (i .ensures) (b .ensures .is) leg (g .ensures) ((c .before .if1) .left)) ((c .no-move) .ensures (length r) (omega (arith, p .low1)))
 
 pub try-before-spec : {M : Type 1} → statement M
