@@ -1,3 +1,4 @@
+pub mod AcceptLaws
 pub mod BoundLaws
 pub mod CellLaws
 pub mod CheckLaws
@@ -18,12 +19,14 @@ pub mod KickLaws
 pub mod KickTimeLaws
 pub mod KickedLaws
 pub mod LandLaws
+pub mod LeavesLaws
 pub mod LeftLaws
 pub mod Lk3Laws
 pub mod LkLaws
 pub mod LoneLaws
 pub mod MoveWayLaws
 pub mod NearestLaws
+pub mod NewerLaws
 pub mod OnwardLaws
 pub mod OrMoveLaws
 pub mod OrderLaws
