@@ -20,7 +20,7 @@ use Rattle.rules.specs.Ring.{isRound, placesOf, recount}
 use Rattle.rules.specs.Search.{search}
 use Rattle.rules.specs.State.{State, commit, load, undo}
 use Rattle.rules.specs.Words.{Legs, Place, Round, Time}
-use Rattle.laws.proofs.AcceptLaws.{Lendable, callable, first-held, lendable, one-root}
+use Rattle.laws.proofs.AcceptLaws.{Lendable, callable, lendable, one-root}
 use Rattle.laws.proofs.CheckLaws.{Passed}
 use Rattle.laws.proofs.DescendLaws.{Sound, descend-sound}
 use Rattle.laws.proofs.JournalLaws.{Past}
@@ -32,6 +32,7 @@ use Rattle.laws.proofs.PermLaws.{perm-round, round-length, round-perm}
 use Rattle.laws.proofs.RunLaws.{committed-empty, kept-past}
 use Rattle.laws.proofs.SearchTimeLaws.{search-answers}
 use Rattle.laws.proofs.StateLaws.{commit-sound, load-sound, undo-stands}
+use Rattle.laws.proofs.VerdictLaws.{first-held}
 use Rattle.promises.specs.Promises.{Commits, Descends, KicksOnce, Loads, Searches, Stands, Undoes}
 use Rattle.demands.specs.Demands.{Committed}
 

@@ -1,2 +1,4 @@
+pub mod Demand1
 pub mod Demand3
+mod GroundLaws
 mod HoldsLaws

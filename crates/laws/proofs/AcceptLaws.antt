@@ -1,7 +1,7 @@
 -- 01, "Answer numbers": what a call that was not refused was lent.
-use Prim.Native.Nat.{_*_, _<_, _≤_, suc, ℕ}
-use mathlib.Core.Path.{_≡_, refl}
-use mathlib.Core.Bool.{Bool, _&&_, false, true}
+use Prim.Native.Nat.{_*_, _<_, _≤_, ℕ}
+use mathlib.Core.Path.{_≡_}
+use mathlib.Core.Bool.{Bool, _&&_}
 use mathlib.Core.List.{List, [], _++_, _∷_}
 use native.Mathlib.Decide.{decLt}
 use native.Mathlib.Nat.{mul-le-mul-left, mul-lt-mul-of-pos-right}
@@ -15,12 +15,7 @@ use Rattle.rules.specs.Plan.{alphaOf, legOf, nearOf}
 use Rattle.laws.proofs.CheckLaws.{Passed, goodState-passed, plan-fits}
 use Rattle.laws.proofs.ChoiceLaws.{and-true}
 use Rattle.laws.proofs.GainLaws.{Fit}
-
--- number 0: the first test held, and the others give 0
-pub first-held : (ok : Bool) (k : ℕ) (cs : List Check) → verdict ((ok or suc k) ∷ cs) ≡ 0 → (ok ≡ true) × (verdict cs ≡ 0)
-unfolding verdict
-first-held true k cs e = (refl, e)
-first-held false k cs e = absurd (omega arith)
+use Rattle.laws.proofs.VerdictLaws.{first-held}
 
 -- 1 to 6 passed
 pub record Lendable (l : Lent) : Type 0 where

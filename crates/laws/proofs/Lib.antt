@@ -9,6 +9,7 @@ pub mod EntryLaws
 pub mod EvenLaws
 pub mod EveryLaws
 pub mod ExactLaws
+pub mod FailLaws
 pub mod FlipLaws
 pub mod GainLaws
 pub mod InLaws
@@ -60,6 +61,7 @@ pub mod TimeLaws
 pub mod TrialLaws
 pub mod TrialStopLaws
 pub mod TurnLaws
+pub mod VerdictLaws
 pub mod WaitLaws
 pub mod WayLaws
 pub mod WindowLaws
