@@ -1,10 +1,8 @@
 -- Demand 1: every input has exactly one number, the lowest for which there is a ground, and 0 where there is none.
-use Prim.Native.Nat.{_≤_, suc, zero, ℕ}
-use mathlib.Core.Path.{_∙_, _≡_, refl, sym}
-use mathlib.Core.List.{List, [], _++_, _∷_}
+use Prim.Native.Nat.{_≤_, ℕ}
+use mathlib.Core.Path.{_∙_, _≡_, sym}
 use native.Mathlib.Decide.{ℕ-discrete}
 use native.Mathlib.Omega.{arith}
-use lib.ListN.{length}
 use Rattle.rules.specs.Memory.{Carried, Lent}
 use Rattle.rules.specs.Numbers.{callChecks, commitNumber, descendNumber, kickNumber, lentChecks, loadNumber, searchNumber, undoNumber, verdict}
 use Rattle.laws.proofs.VerdictLaws.{first-fails, none-fails}

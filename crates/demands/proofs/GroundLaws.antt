@@ -1,5 +1,5 @@
 -- Demand 1: a ground for a number is a check with that number that fails.
-use Prim.Native.Nat.{_*_, _+_, _-_, _/_, _<_, _≤_, suc, zero, ℕ}
+use Prim.Native.Nat.{_*_, _-_, _/_, _<_, ℕ}
 use mathlib.Core.Path.{_≡_, refl, sym}
 use mathlib.Core.Logic.{_≢_, _⊎_, inl, inr}
 use mathlib.Core.Bool.{Bool, _&&_, _||_, false, true}
@@ -11,10 +11,9 @@ use borrow.Author.Tests.{eqb-false, leb-false, lt-leb, ne-eqb}
 use Rattle.rules.specs.Journal.{goodJournal}
 use Rattle.rules.specs.Lists.{at, every, same}
 use Rattle.rules.specs.Memory.{Carried, Lent, planIn, roomIn}
-use Rattle.rules.specs.Numbers.{Check, _or_, agree, callChecks, goodKick, goodLengths, goodList, goodSizes, goodState, goodStep, lentChecks, long, symmetric, verdict, within}
+use Rattle.rules.specs.Numbers.{Check, _or_, agree, goodKick, goodLengths, goodList, goodSizes, goodState, goodStep, lentChecks, long, symmetric, within}
 use Rattle.rules.specs.Plan.{alphaOf, legIn, legOf, listIn, nearOf}
 use Rattle.rules.specs.Ring.{isRound, placesOf, recount}
-use Rattle.rules.specs.Words.{Round, Stop}
 use Rattle.laws.proofs.ChoiceLaws.{true-false}
 use Rattle.laws.proofs.EveryLaws.{All, more, none}
 use Rattle.laws.proofs.FailLaws.{bad-entry, bad-fails, differ-fails, either-fails, left-fails, long-fails, neither, one-long, outside, outside-fails, right-fails, same-fails, uneven-fails, uneven-pair}

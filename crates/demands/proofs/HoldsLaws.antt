@@ -1,17 +1,17 @@
 -- What every call keeps: the carried time is the recount, the round holds each stop once, the places are its inverse, and the journal leads
 -- back to the last commit.
-use Prim.Native.Nat.{_*_, _≤_, zero, suc, ℕ}
+use Prim.Native.Nat.{_*_, ℕ}
 use mathlib.Core.Path.{_∙_, _≡_, ap, ap₂, refl, subst, sym}
 use mathlib.Core.Logic.{_≢_}
 use mathlib.Core.Bool.{Bool, true, false, _&&_}
-use mathlib.Core.List.{List, [], _∷_, _++_}
+use mathlib.Core.List.{List, [], _∷_}
 use native.Mathlib.Omega.{arith}
 use lib.IntN.{ℤ}
 use lib.ListN.{length}
 use Rattle.rules.specs.Lists.{if_then_else_}
 use Rattle.rules.specs.Calls.{Done, commitDone, descendDone, kickDone, leaving, loadDone, searchDone, settingsIn, undoDone}
 use Rattle.rules.specs.Descend.{committed, descend, kept}
-use Rattle.rules.specs.Journal.{Track, cleared, entriesOf, trackOf, undoAll}
+use Rattle.rules.specs.Journal.{cleared, entriesOf, trackOf, undoAll}
 use Rattle.rules.specs.Kicks.{kick, kickedState}
 use Rattle.rules.specs.Memory.{Carried, Leaves, Lent, planIn, roomIn, stateIn}
 use Rattle.rules.specs.Numbers.{_or_, callChecks, commitNumber, descendNumber, goodKick, goodStep, kickNumber, lentChecks, loadNumber, searchNumber, undoNumber}
@@ -19,12 +19,11 @@ use Rattle.rules.specs.Plan.{legIn, legOf}
 use Rattle.rules.specs.Ring.{isRound, placesOf, recount}
 use Rattle.rules.specs.Search.{search}
 use Rattle.rules.specs.State.{State, commit, load, undo}
-use Rattle.rules.specs.Words.{Legs, Place, Round, Time}
+use Rattle.rules.specs.Words.{Place, Round, Time}
 use Rattle.laws.proofs.AcceptLaws.{Lendable, callable, lendable, one-root}
 use Rattle.laws.proofs.CheckLaws.{Passed}
 use Rattle.laws.proofs.DescendLaws.{Sound, descend-sound}
 use Rattle.laws.proofs.JournalLaws.{Past}
-use Rattle.laws.proofs.KickLaws.{Kicks}
 use Rattle.laws.proofs.KickedLaws.{kick-kicks, kick-sound}
 use Rattle.laws.proofs.LeavesLaws.{entries-emptied, entries-grown}
 use Rattle.laws.proofs.NewerLaws.{past-undoAll}

@@ -10,8 +10,7 @@ use lib.Dec.{eqb, leb}
 use lib.ListN.{length}
 use borrow.Author.Tests.{eqb-true, leb-true}
 use Rattle.rules.specs.Memory.{Carried, Lent, planIn, roomIn}
-use Rattle.rules.specs.Numbers.{Check, _or_, callChecks, goodLengths, goodList, goodSizes, goodState, lentChecks, long, symmetric, verdict, within}
-use Rattle.rules.specs.Plan.{alphaOf, legOf, nearOf}
+use Rattle.rules.specs.Numbers.{Check, _or_, callChecks, goodLengths, goodState, lentChecks, verdict, within}
 use Rattle.laws.proofs.CheckLaws.{Passed, goodState-passed, plan-fits}
 use Rattle.laws.proofs.ChoiceLaws.{and-true}
 use Rattle.laws.proofs.GainLaws.{Fit}

@@ -1,14 +1,13 @@
 -- 01, "Sizes and numbers", the journal: the words that a call leaves stand for the entries of the state that it leaves.
-use Prim.Native.Nat.{_*_, _+_, _-_, _≤_, zero, ℕ}
+use Prim.Native.Nat.{_*_, _+_, _-_, _≤_, ℕ}
 use mathlib.Core.Path.{_∙_, _≡_, ap, refl, sym}
-use mathlib.Core.List.{List, [], _++_, _∷_, reverse, reverse-reverse}
+use mathlib.Core.List.{List, [], _++_, reverse, reverse-reverse}
 use native.Mathlib.Omega.{arith}
-use lib.Dec.{ltb}
 use lib.ListN.{length, length-append, length-reverse, take}
 use lib.Seq.{take-append-seam}
 use borrow.Author.Tests.{le-ltb}
 use Rattle.rules.specs.Journal.{Entry, entriesOf, wordsOf}
-use Rattle.rules.specs.Lists.{each, if_then_else_}
+use Rattle.rules.specs.Lists.{each}
 use Rattle.rules.specs.Memory.{Carried, Leaves, Lent, wordsLeft}
 use Rattle.rules.specs.State.{State}
 use Rattle.rules.specs.Words.{Place}

@@ -1,5 +1,5 @@
 -- 01, "Lowest number first, among those that apply to the call": the number that checks in rising order give.
-use Prim.Native.Nat.{_≤_, suc, zero, ℕ}
+use Prim.Native.Nat.{_≤_, suc, ℕ}
 use mathlib.Core.Path.{_∙_, _≡_, refl, sym}
 use mathlib.Core.Logic.{_≢_}
 use mathlib.Core.Bool.{Bool, false, true}
@@ -8,7 +8,7 @@ use native.Mathlib.Nat.{le-refl}
 use native.Mathlib.Omega.{arith}
 use Rattle.rules.specs.Numbers.{Check, _or_, verdict}
 use Rattle.laws.proofs.ChoiceLaws.{true-false}
-use Rattle.laws.proofs.EveryLaws.{All, more, none}
+use Rattle.laws.proofs.EveryLaws.{All, more}
 
 -- a check with the number k fails
 pub data Fails : List Check → ℕ → Type 0 where
