@@ -7,10 +7,10 @@ use native.Mathlib.Omega.{arith}
 use lib.Dec.{eqb·suc-zero}
 use lib.ListN.{length}
 use Rattle.rules.specs.Calls.{Done}
-use Rattle.rules.specs.Journal.{entriesOf, undoAll}
+use Rattle.rules.specs.Journal.{entriesOf, goodJournal, undoAll}
 use Rattle.rules.specs.Lists.{if_then_else_}
 use Rattle.rules.specs.Memory.{Carried, Lent}
-use Rattle.rules.specs.Numbers.{loadNumber}
+use Rattle.rules.specs.Numbers.{agree, loadNumber}
 use Rattle.rules.specs.Plan.{legIn}
 use Rattle.rules.specs.Ring.{isRound, placesOf, recount}
 use Rattle.rules.specs.Words.{Time}
@@ -20,12 +20,14 @@ use Rattle.demands.specs.Demands.{Call, Committed, Demand3, Made, Run, U
 use Rattle.demands.proofs.HoldsLaws.{Holds, asLeft, commit-holds, descent-holds, kick-holds, load-holds, refused-holds, search-holds, undo-back, undo-holds}
 
 -- memory that nobody touched holds the same
-untouched-holds : (n : ℕ) (matrix : List Time) (l m : Lent) (c : Carried) (k : Committed) → Untouched matrix l m → Holds n matrix l c k → Holds n matrix m c k
+pub untouched-holds : (n : ℕ) (matrix : List Time) (l m : Lent) (c : Carried) (k : Committed) → Untouched matrix l m → Holds n matrix l c k → Holds n matrix m c k
 untouched-holds n matrix l m c k u h = record {
   cells = h .cells;
   carried = h .carried ∙ ap (recount (legIn n matrix)) (sym (u .same-round));
   once = ap (isRound n) (u .same-round) ∙ h .once;
   inverse = u .same-places ∙ h .inverse ∙ ap placesOf (sym (u .same-round));
+  agrees = ap₂ (λ (w f : List ℕ). agree n w f (c .head) (c .count)) (u .same-queue) (u .same-flags) ∙ h .agrees;
+  ranged = ap (λ (js : List ℕ). goodJournal n js (c .held)) (u .same-journal) ∙ h .ranged;
   back = ap₂ undoAll (ap (λ (js : List ℕ). entriesOf js (c .held)) (u .same-journal)) (u .same-round) ∙ h .back;
   back-time = h .back-time;
 }
@@ -76,7 +78,7 @@ module _ (n : ℕ) (matrix : List Time) (m : Lent) (c : Carried) (l′ : Lent) (
   undo-made (undone p) = undo-back n matrix m c l′ c′ matrix-is (h .cells) k h p
 
 -- a whole run
-run-holds : (n : ℕ) (matrix : List Time) (l : Lent) (c : Carried) (run : Run n matrix l c) → Holds n matrix l c (lastCommit run)
+pub run-holds : (n : ℕ) (matrix : List Time) (l : Lent) (c : Carried) (run : Run n matrix l c) → Holds n matrix l c (lastCommit run)
 unfolding lastCommit loadNumber
 run-holds n matrix l c (begun {l = m} {c = d} {start = start} n-is matrix-is (loaded p)) =
     let a = lendable m true (length start ∷ []) _ (sym (p .number-is)) .0 in

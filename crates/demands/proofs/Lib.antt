@@ -2,3 +2,5 @@ pub mod Demand1
 pub mod Demand3
 mod GroundLaws
 mod HoldsLaws
+pub mod Onward
+mod Witness

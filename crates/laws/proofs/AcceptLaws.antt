@@ -1,19 +1,23 @@
 -- 01, "Answer numbers": what a call that was not refused was lent.
 use Prim.Native.Nat.{_*_, _<_, _≤_, ℕ}
 use mathlib.Core.Path.{_≡_}
-use mathlib.Core.Bool.{Bool, _&&_}
+use mathlib.Core.Bool.{Bool, _&&_, true}
 use mathlib.Core.List.{List, [], _++_, _∷_}
 use native.Mathlib.Decide.{decLt}
 use native.Mathlib.Nat.{mul-le-mul-left, mul-lt-mul-of-pos-right}
 use native.Mathlib.Omega.{arith}
 use lib.Dec.{eqb, leb}
 use lib.ListN.{length}
-use borrow.Author.Tests.{eqb-true, leb-true}
+use borrow.Author.Tests.{eq-eqb, eqb-true, leb-true}
+use Rattle.rules.specs.Lists.{every, rising}
 use Rattle.rules.specs.Memory.{Carried, Lent, planIn, roomIn}
-use Rattle.rules.specs.Numbers.{Check, _or_, callChecks, goodLengths, goodState, lentChecks, verdict, within}
+use Rattle.rules.specs.Numbers.{Check, _or_, callChecks, goodLengths, goodState, lentChecks, symmetric, verdict, within}
+use Rattle.rules.specs.Words.{Legs}
 use Rattle.laws.proofs.CheckLaws.{Passed, goodState-passed, plan-fits}
 use Rattle.laws.proofs.ChoiceLaws.{and-true}
+use Rattle.laws.proofs.EvenLaws.{Even}
 use Rattle.laws.proofs.GainLaws.{Fit}
+use Rattle.laws.proofs.RisingLaws.{rising-every}
 use Rattle.laws.proofs.VerdictLaws.{first-held}
 
 -- 1 to 6 passed
@@ -57,3 +61,10 @@ one-root m n e = elim (decLt m n) [
   where
     below : (a b : ℕ) → a < b → a * a < b * b
     below a b h = let p : a * a ≤ a * b = mul-le-mul-left a (omega arith) in let q : a * b < b * b = mul-lt-mul-of-pos-right h (omega arith) in omega arith
+
+-- legs that take as long as their return pass 5
+pub even-symmetric : (d : Legs) (n : ℕ) → Even d n → symmetric n d ≡ true
+unfolding symmetric
+even-symmetric d n h =
+    rising-every (λ a. every (λ b. eqb (d a b) (d b a)) (rising n 0)) n 0 (λ a la ha.
+    rising-every (λ b. eqb (d a b) (d b a)) n 0 (λ b lb hb. eq-eqb (d a b) (d b a) (h a b (omega arith) (omega arith))))

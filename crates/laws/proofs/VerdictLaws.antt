@@ -8,7 +8,7 @@ use native.Mathlib.Nat.{le-refl}
 use native.Mathlib.Omega.{arith}
 use Rattle.rules.specs.Numbers.{Check, _or_, verdict}
 use Rattle.laws.proofs.ChoiceLaws.{true-false}
-use Rattle.laws.proofs.EveryLaws.{All, more}
+use Rattle.laws.proofs.EveryLaws.{All, all-map, more}
 
 -- a check with the number k fails
 pub data Fails : List Check → ℕ → Type 0 where
@@ -55,3 +55,7 @@ first-fails low (c ∷ cs) (above {ok = false} {k = j} g r) h = (this refl, λ i
 pub fails-give : (P : ℕ → Type 0) (cs : List Check) → All (λ c. c .ok ≡ false → P (c .number)) cs → (k : ℕ) → Fails cs k → P k
 fails-give P (c ∷ cs) (more f a) k (this e) = f e
 fails-give P (c ∷ cs) (more f a) k (later g) = fails-give P cs a k g
+
+-- a number whose checks all hold
+pub never-fails : (k : ℕ) (cs : List Check) → All (λ c. c .number ≡ k → c .ok ≡ true) cs → Fails cs k → ⊥
+never-fails k cs a f = fails-give (λ j. j ≡ k → ⊥) cs (all-map cs (λ c h e q. true-false (sym (h q) ∙ e)) a) k f refl
