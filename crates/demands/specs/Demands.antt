@@ -1,6 +1,6 @@
 -- Demands 1 and 3 of the mission, said of what the public calls promise (crate promises); `demand-1` and `demand-3` in proofs/ prove them.
--- A `data` lists the cases in which something holds, a `record` what holds together; `A → B` reads "for every A, B" or "if A then B",
--- `A × B` "A and B", `A ⊎ B` "A or B", `A → ⊥` "not A". Words like `recount` are definitions of the crate rules. Assumes nothing.
+-- A `data` lists the cases in which something holds, a `record` what holds together; `l .n` is l's field n; `{x : A}` and `(x : A) →` read "for
+-- any x of A", `A → B` "if A then B", `A × B` "A and B", `A ⊎ B` "A or B", `A → ⊥` "not A"; `recount` and the like are rules. Assumes nothing.
 use Prim.Native.Nat.{ℕ, _+_, _*_, _/_, _<_, _≤_}
 use mathlib.Core.Path.{_≡_}
 use mathlib.Core.Logic.{_≢_, _⊎_}
@@ -90,18 +90,18 @@ pub data Ground (l : Lent) (c : Carried) : Call → ℕ → Type 0 where
   -- 8: a kick with fewer than 30 free journal entries
   few-free : {kind draw : ℕ} → length (l .journal) / 5 < c .held + 30 → Ground l c (kick kind draw) 8
 
--- "Lowest number first": 0 exactly where there is no ground, another number exactly where there is a ground for it and none for a lower one
-pub record Right (l : Lent) (c : Carried) (q : Call) (number : ℕ) : Type 0 where
-  pub done : number ≡ 0 → (k : ℕ) → Ground l c q k → ⊥
-  pub accepted : ((k : ℕ) → Ground l c q k → ⊥) → number ≡ 0
-  pub refused : number ≢ 0 → Ground l c q number × ((j : ℕ) → Ground l c q j → number ≤ j)
-  pub lowest : (k : ℕ) → Ground l c q k → ((j : ℕ) → Ground l c q j → k ≤ j) → number ≡ k
+-- "Lowest number first": 0 exactly where there is no ground, a number exactly where there is a ground for it, `G number`, and none for a lower one
+pub record Right (G : ℕ → Type 0) (number : ℕ) : Type 0 where
+  pub done : number ≡ 0 → (k : ℕ) → G k → ⊥
+  pub accepted : ((k : ℕ) → G k → ⊥) → number ≡ 0
+  pub refused : number ≢ 0 → G number × ((j : ℕ) → G j → number ≤ j)
+  pub lowest : (k : ℕ) → G k → ((j : ℕ) → G j → k ≤ j) → number ≡ k
 
 -- every input has exactly one number, and whoever keeps the promise gives that one
 pub record Demand1 (l : Lent) (c : Carried) (q : Call) : Type 0 where
   pub number : ℕ
-  pub right : Right l c q number
-  pub only : (other : ℕ) → Right l c q other → other ≡ number
+  pub right : Right (Ground l c q) number
+  pub only : (other : ℕ) → Right (Ground l c q) other → other ≡ number
   pub given : (other : ℕ) (l′ : Lent) (c′ : Carried) → Made l c other l′ c′ q → other ≡ number
 
 -- ---- demand 3
