@@ -53,6 +53,7 @@ pub record Holds (n : ℕ) (matrix : List Time) (l : Lent) (c : Carried) (k : Co
 abbrev pub asLeft : Lent → Carried → Committed
 asLeft l c = record { round = l .round; time = c .time }
 
+-- nobody waits twice where nobody waits
 once-none : once [] ≡ true
 unfolding once
 once-none = refl
