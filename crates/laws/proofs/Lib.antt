@@ -51,6 +51,7 @@ pub mod StartLaws
 pub mod StartNumberLaws
 pub mod StartRoundLaws
 pub mod StateLaws
+pub mod StayLaws
 pub mod StepLaws
 pub mod StepSinceLaws
 pub mod StretchLaws
