@@ -1,6 +1,6 @@
 -- What memory is left with: a refusal's, a loaded round's, a commit's.
 use Prim.Native.Nat.{ℕ, _-_, _*_, _≤_, _<_}
-use mathlib.Core.Path.{_≡_, refl, sym, ap, _∙_}
+use mathlib.Core.Path.{_≡_, refl, sym, ap, subst, _∙_}
 use mathlib.Core.Logic.{_≢_}
 use mathlib.Core.Bool.{true}
 use mathlib.Core.List.{List, []}
@@ -69,9 +69,11 @@ module _ (l l′ : Lent) (c : Carried) (r : Round) (time : Time) (long : length 
         time-left = lies .takes .is ∙ ap (λ (n : ℕ). recount (legIn n l.matrix) r) long;
       }
 
-  -- with the state as the code has it
-  pub lies-leaves : (head count held : ℕ) → head ≡ 0 → count ≡ 0 → held ≡ 0 → Leaves l c (load (recount (legOf (planIn l))) r) 0 l′ (carrying head count held time)
-  lies-leaves head count held a b d = rw (a, b, d) loaded
+  -- with the state as the code makes it
+  pub lies-leaves : (c′ : Carried) → (c′ .head ≡ 0) × ((c′ .count ≡ 0) × ((c′ .held ≡ 0) × (c′ .time ≡ time))) → Leaves l c (load (recount (legOf (planIn l))) r) 0 l′ c′
+  lies-leaves c′ s =
+      let e : carrying 0 0 0 time ≡ c′ = λ i. record { head = sym (s .0) i; count = sym (s .1 .0) i; held = sym (s .1 .1 .0) i; time = sym (s .1 .1 .1) i } in
+      subst (Leaves l c (load (recount (legOf (planIn l))) r) 0 l′) e loaded
 
 -- ---- a commit keeps all but the journal
 pub commit-leaves : (l : Lent) (c : Carried) → CallPassed l c true → Leaves l c (commitDone l c .state) c.head l (carrying c.head c.count 0 c.time)

@@ -34,11 +34,11 @@ module _ (l : Lent) (c : Carried) (start : Round) (number : ℕ) (is : number �
   pub load-refuses : number ≢ 0 → Loads l c start l c number
   load-refuses h = record { number-is = is; stands = stands-refused number (loadDone l start) l c h }
 
-  pub load-does : number ≡ 0 → (l′ : Lent) (time : Time) → Lies l.matrix start l′.round l′.places l′.flags time → Loads l c start l′ (carrying 0 0 0 time) 0
+  pub load-does : number ≡ 0 → (l′ : Lent) (c′ : Carried) (time : Time) → (c′ .head ≡ 0) × ((c′ .count ≡ 0) × ((c′ .held ≡ 0) × (c′ .time ≡ time))) → Lies l.matrix start l′.round l′.places l′.flags time → Loads l c start l′ c′ 0
   unfolding loadDone leaving
-  load-does e l′ time lies =
+  load-does e l′ c′ time s lies =
       let p = load-passed l start (sym is ∙ e) in
-      record { number-is = sym e ∙ is; stands = stands-done 0 (loadDone l start) l c l′ (carrying 0 0 0 time) refl (lies-leaves l l′ c start time (p .1 .0) lies 0 0 0 refl refl refl) }
+      record { number-is = sym e ∙ is; stands = stands-done 0 (loadDone l start) l c l′ c′ refl (lies-leaves l l′ c start time (p .1 .0) lies c′ s) }
 
 -- ---- commit and undo
 module _ (l : Lent) (c : Carried) (number : ℕ) (is : number ≡ verdict (callChecks l c true)) where
@@ -54,14 +54,15 @@ module _ (l : Lent) (c : Carried) (number : ℕ) (is : number ≡ verdict (callC
   unfolding undoNumber
   undo-refuses h = record { number-is = is; stands = stands-refused number (undoDone l c) l c h }
 
-  pub undo-does : number ≡ 0 → (l′ : Lent) (time : Time) → Lies l.matrix (undoAll (entriesOf l.journal c.held) l.round) l′.round l′.places l′.flags time → Undoes l c l′ (carrying 0 0 0 time) 0
+  pub undo-does : number ≡ 0 → (l′ : Lent) (c′ : Carried) (time : Time) → (c′ .head ≡ 0) × ((c′ .count ≡ 0) × ((c′ .held ≡ 0) × (c′ .time ≡ time)))
+      → Lies l.matrix (undoAll (entriesOf l.journal c.held) l.round) l′.round l′.places l′.flags time → Undoes l c l′ c′ 0
   unfolding undoNumber undoDone leaving undo stateIn trackOf
-  undo-does e l′ time lies =
+  undo-does e l′ c′ time s lies =
       let p = call-passed l c true (sym is ∙ e) in
       record {
         number-is = sym e ∙ is;
-        stands = stands-done 0 (undoDone l c) l c l′ (carrying 0 0 0 time) refl
-            (lies-leaves l l′ c (undoAll (entriesOf l.journal c.held) l.round) time (undoAll-length (entriesOf l.journal c.held) l.round ∙ p .lent .round-long) lies 0 0 0 refl refl refl);
+        stands = stands-done 0 (undoDone l c) l c l′ c′ refl
+            (lies-leaves l l′ c (undoAll (entriesOf l.journal c.held) l.round) time (undoAll-length (entriesOf l.journal c.held) l.round ∙ p .lent .round-long) lies c′ s);
       }
 
 -- ---- kick

@@ -1,5 +1,5 @@
 // The public calls: load, commit, undo, kick. Each checks what it is lent, refuses with a number, or does what the rule says.
-ghost use lib.ListN.{length};
+ghost use mathlib.Core.Path.{_≡_};
 ghost use Rattle.promises.specs.Promises.{Loads, Commits, Undoes, KicksOnce};
 ghost use Rattle.refusals.specs.Lending.{lending, carrying};
 use loads::load_round;
@@ -28,6 +28,18 @@ pub struct Kicked {
     pub number: u32,
     pub state: State,
     pub change: i32,
+}
+
+// The state that load and undo leave: nobody waits, and the queue begins at 0.
+fn empty_queue(held: usize, time: u32) -> State
+    ensures { λ r. ⌜ (r .head ≡ 0) × ((r .count ≡ 0) × ((r .held ≡ held) × (r .time ≡ time))) ⌝ }
+{
+    State {
+        head: 0,
+        count: 0,
+        held: held,
+        time: time,
+    }
 }
 
 // Sets the round to the caller's, with empty queue and journal: a commit.
@@ -71,14 +83,10 @@ pub fn load(
         };
     }
     let time = load_round(matrix, round, places, flags, start);
+    let after = empty_queue(0, time);
     Answer {
         number: 0,
-        state: State {
-            head: 0,
-            count: 0,
-            held: 0,
-            time: time,
-        },
+        state: after,
     }
 }
 
@@ -183,7 +191,7 @@ pub fn undo(
         head: state.head,
         count: state.count,
     };
-    let time = undo_round(
+    let recounted = undo_round(
         matrix,
         round,
         places,
@@ -194,14 +202,10 @@ pub fn undo(
         state.held,
         line,
     );
+    let after = empty_queue(0, recounted);
     Answer {
         number: 0,
-        state: State {
-            head: 0,
-            count: 0,
-            held: 0,
-            time: time,
-        },
+        state: after,
     }
 }
 

@@ -45,6 +45,9 @@ undo-round-requires c κs =
     let p = call-passed l s true (sym (call-number .ensures) ∙ (c .before .before .before .before .before .before .if1) .left) in
     let e = p .lent .round-long in (rw e (p .lent .square), (p .tied, (p .lent .scratch-long ∙ sym e, (rw e (p .journal), (p .lent .queue-long ∙ sym e, p .line)))))
 
+empty-queue-requires : tie.Need-empty-queue-requires
+empty-queue-requires c κs = search needs
+
 same-length-7 : tie.Need-same-length-7
 same-length-7 c = search needs
 
@@ -65,13 +68,14 @@ same-length-12 c = search needs
 
 returns-2 : tie.Need-returns-2
 returns-2 c =
-    let a = c .before .before .before .before .before .before .before .before .before .before .before .before .before .before .before .before .before .before .before .before .before .before .before .before .before .before .before .before .before .before .before .before .args in
-    let call-number = c .before .before .before .before .before .before .before .before .before .before .before .before .before .before .before .before .call-number in
-    let test1 = c .before .before .before .before .before .before .before .before .before .before .before .before .before .before .before .if1 in
-    let undo-round = c .before .before .before .before .before .before .before .before .undo-round in
+    let a = c .before .before .before .before .before .before .before .before .before .before .before .before .before .before .before .before .before .before .before .before .before .before .before .before .before .before .before .before .before .before .before .before .before .args in
+    let call-number = c .before .before .before .before .before .before .before .before .before .before .before .before .before .before .before .before .before .call-number in
+    let test1 = c .before .before .before .before .before .before .before .before .before .before .before .before .before .before .before .before .if1 in
+    let undo-round = c .before .before .before .before .before .before .before .before .before .undo-round in
+    let empty-queue = c .empty-queue in
     let l : Lent = (lending (a .n) (a .k) (a .ka) (a .matrix .now) (a .near .now) (a .alpha .now) (a .round .now) (a .places .now) (a .queue .now) (a .flags .now) (a .scratch .now) (a .journal .now)) in
     let s : Carried = (carrying (a .state .head) (a .state .count) (a .state .held) (a .state .time)) in
-    let after : Lent = lending (a .n) (a .k) (a .ka) (a .matrix .now) (a .near .now) (a .alpha .now) (undo-round .last .1 .0) (undo-round .last .1 .1 .0) (a .queue .now) (undo-round .last .1 .1 .1 .1 .0) (undo-round .last .1 .1 .1 .1 .1 .0) (a .journal .now) in undo-does l s (call-number .result) (call-number .ensures) (test1 .left) after (undo-round .result) (undo-round .ensures)
+    let after : Lent = lending (a .n) (a .k) (a .ka) (a .matrix .now) (a .near .now) (a .alpha .now) (undo-round .last .1 .0) (undo-round .last .1 .1 .0) (a .queue .now) (undo-round .last .1 .1 .1 .1 .0) (undo-round .last .1 .1 .1 .1 .1 .0) (a .journal .now) in undo-does l s (call-number .result) (call-number .ensures) (test1 .left) after (carrying (empty-queue .result .head) (empty-queue .result .count) (empty-queue .result .held) (empty-queue .result .time)) (undo-round .result) (empty-queue .ensures) (undo-round .ensures)
 
 pub undo-spec : {M : Type 1} → statement M
 undo-spec =
@@ -86,6 +90,7 @@ undo-spec =
     same-length-6
     returns
     undo-round-requires
+    empty-queue-requires
     same-length-7
     same-length-8
     same-length-9
