@@ -1,0 +1,2 @@
+mod LayLaws
+mod UndoLaws

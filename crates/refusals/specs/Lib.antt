@@ -1,0 +1,3 @@
+pub mod Lending
+pub mod Refusing
+pub mod Passed
