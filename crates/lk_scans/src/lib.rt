@@ -9,7 +9,7 @@ ghost use Rattle.rules.specs.Step.{among, best};
 ghost use Rattle.rules.specs.Lk.{breadth};
 ghost use Rattle.scans.specs.Scans.{Ready};
 ghost use Rattle.lk_state.specs.Stacks.{legsIn};
-ghost use Rattle.lk_scans.specs.Picked.{contsIn, Picked, Firsts, Placed, IsPick};
+ghost use Rattle.lk_scans.specs.Picked.{contsIn, Picked, Firsts, Placed, IsPick, IsAt};
 use legs::Stop;
 use legs::dist;
 use lk_state::added_has;
@@ -77,6 +77,23 @@ fn place_pick(ps: Picks, p: Pick) -> Picks
         return Picks { a, b: p, c: b };
     }
     Picks { a: p, b: a, c: b }
+}
+
+// The i-th of the best three.
+pub fn pick_at(ps: Picks, i: usize) -> Pick
+    requires { ⌜ i < 3 ⌝ }
+    ensures { λ r. ⌜ IsAt ps i r ⌝ }
+{
+    let a = ps.a;
+    let b = ps.b;
+    let c = ps.c;
+    if i == 0 {
+        return a;
+    }
+    if i == 1 {
+        return b;
+    }
+    c
 }
 
 // Whether the leg t2-t3 was removed or the leg t3-t4 added.

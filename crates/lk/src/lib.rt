@@ -1,0 +1,170 @@
+// `lk_from`, `lk_deepen`: the Lin-Kernighan step on flips. A level of breadth 1 tries one continuation, so from level 1 on it is a loop.
+ghost use mathlib.Core.Path.{_≡_};
+ghost use mathlib.Core.List.{List, [], _∷_};
+ghost use Prim.Native.Nat.{ℕ, _+_, _<_, _≤_};
+ghost use lib.ListN.{length};
+ghost use Rattle.rules.specs.Words.{Stop as StopOf};
+ghost use Rattle.rules.specs.Journal.{trackOf};
+ghost use Rattle.rules.specs.Queue.{pushAll, waiting};
+ghost use Rattle.rules.specs.Lk.{lkSide, lkFrom};
+ghost use Rattle.journal.specs.Journalled.{Journalled};
+ghost use Rattle.queue.specs.Lines.{InLine, Waits};
+ghost use Rattle.scans.specs.Scans.{Ready};
+ghost use Rattle.improve.specs.Steps.{Stepped};
+ghost use Rattle.lk_state.specs.Stacks.{stopsIn, Stepping};
+ghost use Rattle.lk_state.specs.States.{Roomy};
+ghost use Rattle.lk_scans.specs.Picked.{trialIn, Fine};
+ghost use Rattle.lk.specs.Walks.{planOf, led, foundOf, Noted, Closed, Walked};
+use improve::Gained;
+use improve::push_two;
+use journal::rollback;
+use legs::Stop;
+use legs::dist;
+use lk_scans::Pick;
+use lk_scans::lk_breadth;
+use lk_scans::lk_first;
+use lk_scans::lk_next;
+use lk_scans::pick_at;
+use lk_state::LkState;
+use lk_state::leg_word;
+use lk_state::lk_new;
+use lk_state::push_steps;
+use moves::flips::flip;
+use queue::Line;
+use ring::stops::ahead;
+
+// The best closed gain, 0 for none, after how many moves, and how many entries were held then.
+pub struct Mark {
+    pub gain: u32,
+    pub len: usize,
+    pub held: usize,
+}
+
+// Where a walk down the levels ends: the moves made, the best closed gain among them, and how many entries are held.
+pub struct Walk {
+    pub steps: [u32; 100],
+    pub mark: Mark,
+    pub held: usize,
+}
+
+// A move more in a state of `level` moves: the leg t2-t3 comes, t3-t4 goes.
+fn note_move(mut st: LkState, level: usize, t2: Stop, t3: Stop, t4: Stop) -> LkState
+    requires { ⌜ Roomy st ⌝ }
+    requires { ⌜ level < 25 ⌝ }
+    requires { ⌜ t2 .0 < 4096 ⌝ }
+    requires { ⌜ t3 .0 < 4096 ⌝ }
+    requires { ⌜ t4 .0 < 4096 ⌝ }
+    ensures { λ r. ⌜ Noted st level (t2 .0) (t3 .0) (t4 .0) r ⌝ }
+{
+    let come = leg_word(t2, t3);
+    let gone = leg_word(t3, t4);
+    st.steps[level] = t3.0 * 4096 + t4.0;
+    st.steps_len = level + 1;
+    st.added[level] = come;
+    st.added_len = level + 1;
+    st.removed[level + 1] = gone;
+    st.removed_len = level + 2;
+    st
+}
+
+// The better of the mark so far and of closing now.
+fn better_of(best: Mark, partial: u32, closing: u32, level: usize, held: usize) -> Mark
+    requires { ⌜ best .gain ≤ 2000000000 ⌝ }
+    requires { ⌜ closing ≤ 65535 ⌝ }
+    ensures { λ r. ⌜ Closed (best .gain) (best .len) (best .held) partial closing level held (r .gain) (r .len) (r .held) ⌝ }
+{
+    if closing + best.gain < partial {
+        return Mark {
+            gain: partial - closing,
+            len: level,
+            held,
+        };
+    }
+    best
+}
+
+// Goes on from the first continuation, a flip a level, until there is none or 25 levels are done.
+pub fn lk_walk(
+    matrix: &[u16],
+    near: &[u32],
+    k: usize,
+    round: &mut [u32],
+    places: &mut [u32],
+    journal: &mut [u32],
+    held: usize,
+    t1: Stop,
+    t2: Stop,
+    first: Pick,
+) -> Walk
+    requires { ⌜ Ready (now matrix) (now near) k (now round) (now places) ⌝ }
+    requires { ⌜ t1 .0 < length (now round) ⌝ }
+    requires { ⌜ t2 .0 < length (now round) ⌝ }
+    requires { ⌜ 0 < first .partial ⌝ }
+    requires { ⌜ Fine (length (now round)) 65535 (first .partial) (first .t3 .0) (first .t4 .0) ⌝ }
+    requires { ⌜ Journalled (length (now round)) (now journal) held 25 ⌝ }
+    ensures { λ r. ⌜ ((ka : ℕ) (alpha : List StopOf) → Walked (led (planOf (length (now (round .entry))) (now (matrix .entry)) k (now (near .entry)) ka alpha) (t1 .0) (t2 .0) (trackOf (now (round .entry)) (now (journal .entry)) held) (trialIn first)) (trackOf (now (round .entry)) (now (journal .entry)) held) (now (journal .entry)) held (now (round .exit)) (now (places .exit)) (now (journal .exit)) (r .held) (r .mark .gain) (r .steps) (r .mark .len) (r .mark .held)) ⌝ }
+{
+    let n = round.len();
+    let mut st = lk_new(t1, t2);
+    let mut best = Mark {
+        gain: 0,
+        len: 0,
+        held,
+    };
+    let mut h = held;
+    let mut p = first;
+    let mut end = t2;
+    let mut level: usize = 0;
+    while 0 < p.partial {
+        h = flip(round, places, journal, h, t1, end, p.t3);
+        st = note_move(st, level, end, p.t3, p.t4);
+        let closing = dist(matrix, n, p.t4, t1);
+        level = level + 1;
+        best = better_of(best, p.partial, closing, level, h);
+        if 25 <= level {
+            break;
+        }
+        end = p.t4;
+        p = lk_next(
+            matrix,
+            near,
+            k,
+            round,
+            places,
+            &st.added,
+            level,
+            &st.removed,
+            level + 1,
+            t1,
+            end,
+            p.partial,
+        );
+    }
+    let steps = st.steps;
+    Walk {
+        steps,
+        mark: best,
+        held: h,
+    }
+}
+
+// Pushes t1, t2 and the stops of the moves that last, in order.
+fn push_moves(
+    queue: &mut [u32],
+    flags: &mut [u8],
+    line: Line,
+    t1: Stop,
+    t2: Stop,
+    steps: &[u32; 100],
+    len: usize,
+) -> Line
+    requires { ⌜ InLine (now queue) (now flags) (line .head) (line .count) ⌝ }
+    requires { ⌜ t1 .0 < length (now queue) ⌝ }
+    requires { ⌜ t2 .0 < length (now queue) ⌝ }
+    requires { ⌜ len ≤ 100 ⌝ }
+    requires { ⌜ Stepping (now steps) len (length (now queue)) ⌝ }
+    ensures { λ r. ⌜ Waits (pushAll (waiting (now (queue .entry)) (line .head) (line .count)) (t1 .0 ∷ t2 .0 ∷ stopsIn (now (steps .entry)) len)) (line .head) (now (queue .exit)) (now (flags .exit)) (r .head) (r .count) ⌝ }
+{
+    let l = push_two(queue, flags, line, t1, t2);
+    push_steps(queue, flags, l, steps, len)
+}
