@@ -16,7 +16,8 @@ use Rattle.rules.specs.Plan.{Plan, legIn, legOf, nearOf}
 use Rattle.rules.specs.Improve.{Trial, endsOf}
 use Rattle.rules.specs.Step.{Step, begin, going, best}
 use Rattle.rules.specs.Lk.{Best, better, flipped, deepen, conts, contOf, mayFlip}
-use Rattle.rules.specs.Contracts.{Tied}
+use Rattle.rules.specs.Contracts.{Tied, Square, Listed}
+use Rattle.scans.specs.Scans.{Ready}
 use Rattle.laws.proofs.ChoiceLaws.{either-if}
 use Rattle.laws.proofs.JournalLaws.{Past, past-length, past-deeper, past-rollback, rollback-done, entriesOf-length}
 use Rattle.laws.proofs.SinceLaws.{since-flip}
@@ -30,7 +31,7 @@ use Rattle.lk_state.specs.States.{stepOf, Roomy, Begun}
 use Rattle.lk_state.specs.declared.LkState.{LkState}
 use Rattle.lk_state.proofs.StackLaws.{stepping-less}
 use Rattle.lk_scans.specs.Picked.{stepIn, contsIn, contIs, shown, Picked, Fine}
-use Rattle.lk.specs.Walks.{planOf, led, stepAt, bestAt, Noted, Closed, Walked}
+use Rattle.lk.specs.Walks.{planOf, led, stepAt, bestAt, Noted, Closed, Leveled, Walked}
 use Rattle.lk.proofs.OnLaws.{onward, onward-none, onward-some, level-on}
 
 held-length : (r : Round) (j : List ℕ) (h : ℕ) → length (trackOf r j h .journal) ≡ h
@@ -40,6 +41,13 @@ held-length r j h = entriesOf-length j h
 -- back to all that is held: nothing
 pub held-back : (r : Round) (j : List ℕ) (h : ℕ) → rollback h (trackOf r j h) ≡ trackOf r j h
 held-back r j h = rollback-done h (trackOf r j h) (omega (arith, held-length r j h))
+
+less-or : (a b : ℕ) (Q : Type 0) → (a < b → Q) → (b ≤ a → Q) → Q
+less-or a b Q f g = either-if (λ (c : Bool). Q) (ltb a b) {x = true} {y = true} (λ y. f (ltb-true a b y)) (λ y. g (ltb-false a b y))
+
+-- the scans may go on over a round of the same size
+pub ready-kept : {matrix : List Time} {near : List Stop} {k : ℕ} {r r′ : Round} {ps ps′ : List Place} → Ready matrix near k r ps → length r′ ≡ length r → Tied r′ ps′ → Ready matrix near k r′ ps′
+ready-kept {matrix = matrix} {near = near} {k = k} y e t = record { tied = t; square = subst (Square matrix) (sym e) (y .square); lists = subst (Listed near k) (sym e) (y .lists) }
 
 -- ---- what is kept from level to level
 pub record Going (round₀ : Round) (j₀ : List ℕ) (held : ℕ) (round : Round) (places : List Place) (j : List ℕ) (h : ℕ) (st : LkState) (gain : Time) (len mark level : ℕ) : Type 0 where
@@ -178,27 +186,76 @@ module _ {round₀ : Round} {j₀ : List ℕ} {held : ℕ} {round : Round} {plac
 
 -- ---- the level after
 module _ (n : ℕ) (matrix : List Time) (k : ℕ) (near : List Stop) (ka : ℕ) (alpha : List Stop) (t1 t4 : Stop) (partial : Time) (st : LkState) (level : ℕ) (round : Round) (j : List ℕ) (h : ℕ) (b goal : Best) where
-  -- its scan has picked a continuation, or none
-  pub on-next : (partial′ : Time) (t3′ t4′ : Stop) → length round ≡ n → level + 1 ≤ 24
-      → Picked (length round) partial (best 1 [] (contsIn (length round) matrix k near round (legsIn (st .added) (level + 1)) (legsIn (st .removed) (level + 1 + 1)) t1 t4 partial)) partial′ t3′ t4′
+  scans-same : conts (planOf n matrix k near ka alpha) (eqb (succ round t1) t4) (stepAt st (level + 1) (trackOf round j h)) t1 t4 partial
+      ≡ contsIn n matrix k near round (legsIn (st .added) (level + 1)) (legsIn (st .removed) (level + 1 + 1)) t1 t4 partial
+  unfolding contsIn conts contOf mayFlip stepIn nearPlan planOf stepAt trackOf legOf nearOf
+  scans-same = refl
+
+  -- its scan has picked a continuation, or none; the 25th was the last
+  pub on-next : (partial′ : Time) (t3′ t4′ : Stop) → length round ≡ n → level ≤ 24
+      → Leveled (length round) partial (level + 1) (best 1 [] (contsIn (length round) matrix k near round (legsIn (st .added) (level + 1)) (legsIn (st .removed) (level + 1 + 1)) t1 t4 partial)) partial′ t3′ t4′
       → deepen (planOf n matrix k near ka alpha) t1 (24 - level) (stepAt st (level + 1) (trackOf round j h)) t4 partial b ≡ goal
       → onward (planOf n matrix k near ka alpha) t1 (24 - (level + 1)) (stepAt st (level + 1) (trackOf round j h)) t4 (contIs partial′ t3′ t4′) b ≡ goal
-  unfolding contsIn conts contOf mayFlip stepIn nearPlan planOf stepAt trackOf legOf nearOf
-  on-next partial′ t3′ t4′ en hl pk e =
+  unfolding contIs deepen stepAt trackOf
+  on-next partial′ t3′ t4′ en hl lv e =
+      let p : Plan = planOf n matrix k near ka alpha in
+      let s : Step = stepAt st (level + 1) (trackOf round j h) in
+      less-or level 24 (onward p t1 (24 - (level + 1)) s t4 (contIs partial′ t3′ t4′) b ≡ goal)
+      (λ l.
       let q : 24 - level ≡ suc (24 - (level + 1)) = omega arith in
-      let s : Step = stepAt st (level + 1) (trackOf round j h) in
-      let c : shown (contIs partial′ t3′ t4′) [] ≡ best 1 [] (conts (planOf n matrix k near ka alpha) (eqb (succ s.track.round t1) t4) s t1 t4 partial)
-      = pk .is ∙ ap (λ (m : ℕ). best 1 [] (contsIn m matrix k near round (legsIn (st .added) (level + 1)) (legsIn (st .removed) (level + 1 + 1)) t1 t4 partial)) en in
-      sym (level-on (planOf n matrix k near ka alpha) t1 (24 - (level + 1)) s t4 partial b (contIs partial′ t3′ t4′) (omega arith) c)
-      ∙ sym (ap (λ (m : ℕ). deepen (planOf n matrix k near ka alpha) t1 m s t4 partial b) q) ∙ e
-
-  -- there are no more levels
-  pub on-last : 24 ≤ level → deepen (planOf n matrix k near ka alpha) t1 (24 - level) (stepAt st (level + 1) (trackOf round j h)) t4 partial b ≡ goal → b ≡ goal
-  unfolding deepen
-  on-last hl e =
+      let c : shown (contIs partial′ t3′ t4′) [] ≡ best 1 [] (conts p (eqb (succ round t1) t4) s t1 t4 partial)
+      = lv .on (omega arith) ∙ ap (λ (m : ℕ). best 1 [] (contsIn m matrix k near round (legsIn (st .added) (level + 1)) (legsIn (st .removed) (level + 1 + 1)) t1 t4 partial)) en ∙ sym (ap (best 1 []) scans-same) in
+      sym (level-on p t1 (24 - (level + 1)) s t4 partial b (contIs partial′ t3′ t4′) (omega arith) c) ∙ sym (ap (λ (m : ℕ). deepen p t1 m s t4 partial b) q) ∙ e)
+      (λ l.
       let q : 24 - level ≡ 0 = omega arith in
-      let s : Step = stepAt st (level + 1) (trackOf round j h) in
-      sym (ap (λ (m : ℕ). deepen (planOf n matrix k near ka alpha) t1 m s t4 partial b) q) ∙ e
+      let z : partial′ ≡ 0 = lv .last (omega arith) in
+      onward-none p t1 (24 - (level + 1)) s t4 (contIs partial′ t3′ t4′) b (omega arith) ∙ sym (ap (λ (m : ℕ). deepen p t1 m s t4 partial b) q) ∙ e)
+
+-- ---- before a level: the continuation that it goes on with, and that what is left leads to the goal
+pub record Ahead (matrix : List Time) (k : ℕ) (near : List Stop) (round₀ : Round) (j₀ : List ℕ) (held : ℕ) (t1 t2 : Stop) (x : Trial) (round : Round) (places : List Place) (j : List ℕ) (h : ℕ) (st : LkState) (gain : Time) (len mark : ℕ)
+    (partial : Time) (t3 t4 end : Stop) (level : ℕ) : Type 0 where
+  pub kept : Going round₀ j₀ held round places j h st gain len mark level
+  pub within : level ≤ 25
+  pub some : 0 < partial → level ≤ 24
+  pub end-low : end < length round₀
+  pub fine : Fine (length round₀) (65535 * (level + 1)) partial t3 t4
+  pub leads : (ka : ℕ) (alpha : List Stop)
+      → onward (planOf (length round₀) matrix k near ka alpha) t1 (24 - level) (stepAt st level (trackOf round j h)) end (contIs partial t3 t4) (bestAt st gain len mark (trackOf round j h))
+      ≡ led (planOf (length round₀) matrix k near ka alpha) t1 t2 (trackOf round₀ j₀ held) x
+
+pub ahead-start : (matrix : List Time) (k : ℕ) (near : List Stop) (round : Round) (places : List Place) (j : List ℕ) (held : ℕ) (t1 t2 : Stop) (partial : Time) (t3 t4 : Stop) (st : LkState) → Tied round places → goodJournal (length round) j held ≡ true → Begun t1 t2 st
+    → t2 < length round → 0 < partial → Fine (length round) 65535 partial t3 t4 → Ahead matrix k near round j held t1 t2 (contIs partial t3 t4) round places j held st 0 0 held partial t3 t4 t2 0
+unfolding contIs
+ahead-start matrix k near round places j held t1 t2 partial t3 t4 st t g b h2 s f = record {
+  kept = going-start t1 t2 round places j held st t g b;
+  within = omega arith;
+  some = λ z. omega arith;
+  end-low = h2;
+  fine = record { low3 = f .low3; low4 = f .low4; small = omega (arith, f .small) };
+  leads = λ ka alpha. on-start (length round) matrix k near ka alpha t1 t2 round j held st (contIs partial t3 t4) b s;
+}
+
+pub ahead-turn : {matrix : List Time} {k : ℕ} {near : List Stop} {round₀ : Round} {j₀ : List ℕ} {held : ℕ} {t1 t2 : Stop} {x : Trial} {round : Round} {places : List Place} {j : List ℕ} {h : ℕ} {st : LkState} {gain : Time} {len mark : ℕ} {partial : Time} {t3 t4 end : Stop} {level : ℕ}
+    → Ahead matrix k near round₀ j₀ held t1 t2 x round places j h st gain len mark partial t3 t4 end level → t1 < length round₀ → 0 < partial
+    → {round′ : Round} {places′ : List Place} {j′ : List ℕ} {h′ : ℕ} {st′ : LkState} {gain′ : Time} {len′ mark′ : ℕ} {closing : Time} → Made 1 (flip t1 end t3 (trackOf round j h)) j h round′ places′ j′ h′ → Noted st level end t3 t4 st′ → Closed gain len mark partial closing (level + 1) h′ gain′ len′ mark′ → closing ≡ legIn (length round₀) matrix t4 t1
+    → {partial′ : Time} {t3′ t4′ : Stop} → Leveled (length round′) partial (level + 1) (best 1 [] (contsIn (length round′) matrix k near round′ (legsIn (st′ .added) (level + 1)) (legsIn (st′ .removed) (level + 1 + 1)) t1 t4 partial)) partial′ t3′ t4′
+    → Ahead matrix k near round₀ j₀ held t1 t2 x round′ places′ j′ h′ st′ gain′ len′ mark′ partial′ t3′ t4′ t4 (level + 1)
+ahead-turn {matrix} {k} {near} {round₀} {j₀} {held} {t1} {t2} {x} {round} {places} {j} {h} {st} {gain} {len} {mark} {partial} {t3} {t4} {end} {level} a h1 s {round′} {places′} {j′} {h′} {st′} {gain′} {len′} {mark′} {closing} m nt cl ec {partial′} {t3′} {t4′} lv =
+    let f = a .fine in
+    let l : level ≤ 24 = a .some s in
+    let fit : partial ≤ 65535 * (level + 2) = omega (arith, f .small) in
+    let w : Going round₀ j₀ held round′ places′ j′ h′ st′ gain′ len′ mark′ (level + 1) = going-turn (a .kept) t1 end t3 t4 h1 (a .end-low) (f .low3) (f .low4) partial closing fit m nt cl in
+    let n = w .size in
+    record {
+      kept = w;
+      within = omega arith;
+      some = λ z. less-or (level + 1) 25 (level + 1 ≤ 24) (λ q. omega arith) (λ q. let e = lv .last q in absurd (omega arith));
+      end-low = f .low4;
+      fine = record { low3 = omega (arith, n, lv .fine .low3); low4 = omega (arith, n, lv .fine .low4); small = omega (arith, lv .fine .small, fit) };
+      leads = λ ka alpha.
+          on-next (length round₀) matrix k near ka alpha t1 t4 partial st′ level round′ j′ h′ (bestAt st′ gain′ len′ mark′ (trackOf round′ j′ h′)) (led (planOf (length round₀) matrix k near ka alpha) t1 t2 (trackOf round₀ j₀ held) x) partial′ t3′ t4′ n l lv
+          (on-turn (a .kept) t1 end t3 t4 h1 (a .end-low) (f .low3) (f .low4) partial closing fit m nt cl (length round₀) matrix k near ka alpha ec (led (planOf (length round₀) matrix k near ka alpha) t1 t2 (trackOf round₀ j₀ held) x) s (a .leads ka alpha));
+    }
 
 -- ---- the walk is over
 pub walk-over : {round₀ : Round} {j₀ : List ℕ} {held : ℕ} {round : Round} {places : List Place} {j : List ℕ} {h : ℕ} {st : LkState} {gain : Time} {len mark level : ℕ} → Going round₀ j₀ held round places j h st gain len mark level → level ≤ 25
@@ -220,3 +277,12 @@ walk-over {round = round} {j = j} {h = h} {st = st} {len = len} {level = level} 
       few = omega (arith, w .few);
       below = stepping-less (st .steps) level len (length round) (w .few) (w .below);
     }
+
+-- there is no continuation
+pub ahead-over : {matrix : List Time} {k : ℕ} {near : List Stop} {round₀ : Round} {j₀ : List ℕ} {held : ℕ} {t1 t2 : Stop} {x : Trial} {round : Round} {places : List Place} {j : List ℕ} {h : ℕ} {st : LkState} {gain : Time} {len mark : ℕ} {partial : Time} {t3 t4 end : Stop} {level : ℕ}
+    → Ahead matrix k near round₀ j₀ held t1 t2 x round places j h st gain len mark partial t3 t4 end level → partial ≤ 0 → (ka : ℕ) (alpha : List Stop)
+    → Walked (led (planOf (length round₀) matrix k near ka alpha) t1 t2 (trackOf round₀ j₀ held) x) (trackOf round₀ j₀ held) j₀ held round places j h gain (st .steps) len mark
+unfolding contIs
+ahead-over {matrix} {k} {near} {round₀} {j₀} {held} {t1} {t2} {x} {round} {places} {j} {h} {st} {gain} {len} {mark} {partial} {t3} {t4} {end} {level} a z ka alpha =
+    walk-over (a .kept) (a .within) _
+    (sym (onward-none (planOf (length round₀) matrix k near ka alpha) t1 (24 - level) (stepAt st level (trackOf round j h)) end (contIs partial t3 t4) (bestAt st gain len mark (trackOf round j h)) z) ∙ a .leads ka alpha)

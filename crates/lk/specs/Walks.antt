@@ -16,6 +16,7 @@ use Rattle.journal.specs.Journalled.{Grew}
 use Rattle.lk_state.specs.Stacks.{legsIn, stopsIn, Stepping}
 use Rattle.lk_state.specs.States.{Roomy}
 use Rattle.lk_state.specs.declared.LkState.{LkState}
+use Rattle.lk_scans.specs.Picked.{shown, contIs, Fine}
 
 -- the plan of what is lent, with any alpha lists: LK reads none
 unfoldable pub planOf : ℕ → List Time → ℕ → List Stop → ℕ → List Stop → Plan
@@ -55,6 +56,12 @@ pub record Noted (st : LkState) (len : ℕ) (t2 t3 t4 : Stop) (st′ : LkState) 
 pub record Closed (gain : Time) (len held : ℕ) (partial closing : Time) (level mark : ℕ) (gain′ : Time) (len′ held′ : ℕ) : Type 0 where
   pub new : closing + gain < partial → (gain′ ≡ partial - closing) × ((len′ ≡ level) × (held′ ≡ mark))
   pub old : partial ≤ closing + gain → (gain′ ≡ gain) × ((len′ ≡ len) × (held′ ≡ held))
+
+-- the continuation that a level is gone on with, of a list of at most one; none beyond the 25th
+pub record Leveled (n : ℕ) (g : Time) (level : ℕ) (xs : List Trial) (partial : Time) (t3 t4 : Stop) : Type 0 where
+  pub on : level < 25 → shown (contIs partial t3 t4) [] ≡ xs
+  pub last : 25 ≤ level → partial ≡ 0
+  pub fine : Fine n g partial t3 t4
 
 -- a walk down the levels: the best closed gain is the goal's, the mark leads back to its track, and some moves lie beyond it
 pub record Walked (goal : Best) (t : Track) (journal : List ℕ) (held : ℕ) (round : Round) (places : List Place) (journal′ : List ℕ) (held′ : ℕ)

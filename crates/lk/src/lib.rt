@@ -6,15 +6,16 @@ ghost use lib.ListN.{length};
 ghost use Rattle.rules.specs.Words.{Stop as StopOf};
 ghost use Rattle.rules.specs.Journal.{trackOf};
 ghost use Rattle.rules.specs.Queue.{pushAll, waiting};
+ghost use Rattle.rules.specs.Step.{best};
 ghost use Rattle.rules.specs.Lk.{lkSide, lkFrom};
 ghost use Rattle.journal.specs.Journalled.{Journalled};
 ghost use Rattle.queue.specs.Lines.{InLine, Waits};
 ghost use Rattle.scans.specs.Scans.{Ready};
 ghost use Rattle.improve.specs.Steps.{Stepped};
-ghost use Rattle.lk_state.specs.Stacks.{stopsIn, Stepping};
+ghost use Rattle.lk_state.specs.Stacks.{legsIn, stopsIn, Stepping};
 ghost use Rattle.lk_state.specs.States.{Roomy};
-ghost use Rattle.lk_scans.specs.Picked.{trialIn, Fine};
-ghost use Rattle.lk.specs.Walks.{planOf, led, foundOf, Noted, Closed, Walked};
+ghost use Rattle.lk_scans.specs.Picked.{contsIn, trialIn, Fine};
+ghost use Rattle.lk.specs.Walks.{planOf, led, foundOf, Noted, Closed, Leveled, Walked};
 use improve::Gained;
 use improve::push_two;
 use journal::rollback;
@@ -83,7 +84,51 @@ fn better_of(best: Mark, partial: u32, closing: u32, level: usize, held: usize) 
     best
 }
 
-// Goes on from the first continuation, a flip a level, until there is none or 25 levels are done.
+// The best continuation of a level above the first; none beyond the 25 levels.
+fn lk_level<'a>(
+    matrix: &[u16],
+    near: &[u32],
+    k: usize,
+    round: &[u32],
+    places: &[u32],
+    added: &'a [u32; 98],
+    removed: &'a [u32; 99],
+    level: usize,
+    t1: Stop,
+    t2: Stop,
+    g: u32,
+) -> Pick
+    requires { ⌜ Ready (now matrix) (now near) k (now round) (now places) ⌝ }
+    requires { ⌜ level ≤ 25 ⌝ }
+    requires { ⌜ t1 .0 < length (now round) ⌝ }
+    requires { ⌜ t2 .0 < length (now round) ⌝ }
+    requires { ⌜ g ≤ 2000000000 ⌝ }
+    ensures { λ r. ⌜ Leveled (length (now (round .entry))) g level (best 1 [] (contsIn (length (now (round .entry))) (now (matrix .entry)) k (now (near .entry)) (now (round .entry)) (legsIn (now (added .entry)) level) (legsIn (now (removed .entry)) (level + 1)) (t1 .0) (t2 .0) g)) (r .partial) (r .t3 .0) (r .t4 .0) ⌝ }
+{
+    if 25 <= level {
+        return Pick {
+            partial: 0,
+            t3: t1,
+            t4: t2,
+        };
+    }
+    lk_next(
+        matrix,
+        near,
+        k,
+        round,
+        places,
+        added,
+        level,
+        removed,
+        level + 1,
+        t1,
+        t2,
+        g,
+    )
+}
+
+// Goes on from the first continuation, a flip a level, until there is none.
 pub fn lk_walk(
     matrix: &[u16],
     near: &[u32],
@@ -121,20 +166,16 @@ pub fn lk_walk(
         let closing = dist(matrix, n, p.t4, t1);
         level = level + 1;
         best = better_of(best, p.partial, closing, level, h);
-        if 25 <= level {
-            break;
-        }
         end = p.t4;
-        p = lk_next(
+        p = lk_level(
             matrix,
             near,
             k,
             round,
             places,
             &st.added,
-            level,
             &st.removed,
-            level + 1,
+            level,
             t1,
             end,
             p.partial,
