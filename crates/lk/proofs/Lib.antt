@@ -1,3 +1,4 @@
 pub mod NoteLaws
 pub mod OnLaws
+pub mod SideLaws
 pub mod WalkLaws

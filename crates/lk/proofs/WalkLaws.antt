@@ -42,7 +42,7 @@ held-length r j h = entriesOf-length j h
 pub held-back : (r : Round) (j : List ℕ) (h : ℕ) → rollback h (trackOf r j h) ≡ trackOf r j h
 held-back r j h = rollback-done h (trackOf r j h) (omega (arith, held-length r j h))
 
-less-or : (a b : ℕ) (Q : Type 0) → (a < b → Q) → (b ≤ a → Q) → Q
+pub less-or : (a b : ℕ) (Q : Type 0) → (a < b → Q) → (b ≤ a → Q) → Q
 less-or a b Q f g = either-if (λ (c : Bool). Q) (ltb a b) {x = true} {y = true} (λ y. f (ltb-true a b y)) (λ y. g (ltb-false a b y))
 
 -- the scans may go on over a round of the same size

@@ -209,3 +209,144 @@ fn push_moves(
     let l = push_two(queue, flags, line, t1, t2);
     push_steps(queue, flags, l, steps, len)
 }
+
+// `lk_deepen` from the first continuation on: walks down the levels, rolls back to the best closed gain and queues its stops.
+pub fn lk_deepen(
+    matrix: &[u16],
+    near: &[u32],
+    k: usize,
+    round: &mut [u32],
+    places: &mut [u32],
+    scratch: &mut [u32],
+    queue: &mut [u32],
+    flags: &mut [u8],
+    journal: &mut [u32],
+    held: usize,
+    line: Line,
+    t1: Stop,
+    t2: Stop,
+    first: Pick,
+) -> Gained
+    requires { ⌜ Ready (now matrix) (now near) k (now round) (now places) ⌝ }
+    requires { ⌜ t1 .0 < length (now round) ⌝ }
+    requires { ⌜ t2 .0 < length (now round) ⌝ }
+    requires { ⌜ 0 < first .partial ⌝ }
+    requires { ⌜ Fine (length (now round)) 65535 (first .partial) (first .t3 .0) (first .t4 .0) ⌝ }
+    requires { ⌜ length (now scratch) ≡ length (now round) ⌝ }
+    requires { ⌜ length (now queue) ≡ length (now round) ⌝ }
+    requires { ⌜ InLine (now queue) (now flags) (line .head) (line .count) ⌝ }
+    requires { ⌜ Journalled (length (now round)) (now journal) held 25 ⌝ }
+    ensures { λ r. ⌜ ((ka : ℕ) (alpha : List StopOf) → Stepped 25 (foundOf (t1 .0) (t2 .0) (trackOf (now (round .entry)) (now (journal .entry)) held) (led (planOf (length (now (round .entry))) (now (matrix .entry)) k (now (near .entry)) ka alpha) (t1 .0) (t2 .0) (trackOf (now (round .entry)) (now (journal .entry)) held) (trialIn first))) (now (queue .entry)) (line .head) (line .count) (now (journal .entry)) held (now (round .exit)) (now (places .exit)) (now (queue .exit)) (now (flags .exit)) (now (journal .exit)) (r .gain) (r .held) (r .line .head) (r .line .count)) ⌝ }
+{
+    let w = lk_walk(
+        matrix, near, k, round, places, journal, held, t1, t2, first,
+    );
+    let mark = w.mark;
+    let h = rollback(round, places, scratch, journal, w.held, mark.held);
+    let gain = mark.gain;
+    if gain == 0 {
+        return Gained {
+            gain,
+            held: h,
+            line,
+        };
+    }
+    let l = push_moves(queue, flags, line, t1, t2, &w.steps, mark.len);
+    Gained {
+        gain,
+        held: h,
+        line: l,
+    }
+}
+
+// One side of `lk_from`: the continuations of the first level one after another, until one has led to a gain.
+pub fn lk_side(
+    matrix: &[u16],
+    near: &[u32],
+    k: usize,
+    round: &mut [u32],
+    places: &mut [u32],
+    scratch: &mut [u32],
+    queue: &mut [u32],
+    flags: &mut [u8],
+    journal: &mut [u32],
+    held: usize,
+    line: Line,
+    fwd: bool,
+    t1: Stop,
+) -> Gained
+    requires { ⌜ Ready (now matrix) (now near) k (now round) (now places) ⌝ }
+    requires { ⌜ t1 .0 < length (now round) ⌝ }
+    requires { ⌜ length (now scratch) ≡ length (now round) ⌝ }
+    requires { ⌜ length (now queue) ≡ length (now round) ⌝ }
+    requires { ⌜ InLine (now queue) (now flags) (line .head) (line .count) ⌝ }
+    requires { ⌜ Journalled (length (now round)) (now journal) held 25 ⌝ }
+    ensures { λ r. ⌜ ((ka : ℕ) (alpha : List StopOf) → Stepped 25 (lkSide (planOf (length (now (round .entry))) (now (matrix .entry)) k (now (near .entry)) ka alpha) (t1 .0) fwd (trackOf (now (round .entry)) (now (journal .entry)) held)) (now (queue .entry)) (line .head) (line .count) (now (journal .entry)) held (now (round .exit)) (now (places .exit)) (now (queue .exit)) (now (flags .exit)) (now (journal .exit)) (r .gain) (r .held) (r .line .head) (r .line .count)) ⌝ }
+{
+    let n = round.len();
+    let t2 = ahead(round, places, fwd, t1);
+    let g = dist(matrix, n, t1, t2);
+    let ps = lk_first(matrix, near, k, round, places, t1, t2, g);
+    let mut h = held;
+    let mut l = line;
+    let mut i: usize = 0;
+    let mut p = pick_at(ps, 0);
+    while 0 < p.partial {
+        let r = lk_deepen(
+            matrix, near, k, round, places, scratch, queue, flags, journal, h, l, t1, t2, p,
+        );
+        if 0 < r.gain {
+            return r;
+        }
+        h = r.held;
+        l = r.line;
+        i = i + 1;
+        p = pick_at(ps, i);
+    }
+    Gained {
+        gain: 0,
+        held: h,
+        line: l,
+    }
+}
+
+// The Lin-Kernighan step from t1: t2 after t1, then before it; 0 below 5 stops.
+pub fn lk_from(
+    matrix: &[u16],
+    near: &[u32],
+    k: usize,
+    round: &mut [u32],
+    places: &mut [u32],
+    scratch: &mut [u32],
+    queue: &mut [u32],
+    flags: &mut [u8],
+    journal: &mut [u32],
+    held: usize,
+    line: Line,
+    t1: Stop,
+) -> Gained
+    requires { ⌜ Ready (now matrix) (now near) k (now round) (now places) ⌝ }
+    requires { ⌜ t1 .0 < length (now round) ⌝ }
+    requires { ⌜ length (now scratch) ≡ length (now round) ⌝ }
+    requires { ⌜ length (now queue) ≡ length (now round) ⌝ }
+    requires { ⌜ InLine (now queue) (now flags) (line .head) (line .count) ⌝ }
+    requires { ⌜ Journalled (length (now round)) (now journal) held 25 ⌝ }
+    ensures { λ r. ⌜ ((ka : ℕ) (alpha : List StopOf) → Stepped 25 (lkFrom (planOf (length (now (round .entry))) (now (matrix .entry)) k (now (near .entry)) ka alpha) (t1 .0) (trackOf (now (round .entry)) (now (journal .entry)) held)) (now (queue .entry)) (line .head) (line .count) (now (journal .entry)) held (now (round .exit)) (now (places .exit)) (now (queue .exit)) (now (flags .exit)) (now (journal .exit)) (r .gain) (r .held) (r .line .head) (r .line .count)) ⌝ }
+{
+    if round.len() < 5 {
+        return Gained {
+            gain: 0,
+            held,
+            line,
+        };
+    }
+    let r = lk_side(
+        matrix, near, k, round, places, scratch, queue, flags, journal, held, line, true, t1,
+    );
+    if 0 < r.gain {
+        return r;
+    }
+    lk_side(
+        matrix, near, k, round, places, scratch, queue, flags, journal, r.held, r.line, false, t1,
+    )
+}

@@ -79,14 +79,18 @@ fn place_pick(ps: Picks, p: Pick) -> Picks
     Picks { a: p, b: a, c: b }
 }
 
-// The i-th of the best three.
+// The i-th of the best three; none beyond the first level's breadth.
 pub fn pick_at(ps: Picks, i: usize) -> Pick
-    requires { ⌜ i < 3 ⌝ }
     ensures { λ r. ⌜ IsAt ps i r ⌝ }
 {
     let a = ps.a;
     let b = ps.b;
     let c = ps.c;
+    if lk_breadth(0) <= i {
+        let mut none = a;
+        none.partial = 0;
+        return none;
+    }
     if i == 0 {
         return a;
     }
