@@ -238,9 +238,7 @@ pub fn lk_deepen(
     requires { ⌜ Journalled (length (now round)) (now journal) held 25 ⌝ }
     ensures { λ r. ⌜ ((ka : ℕ) (alpha : List StopOf) → Stepped 25 (foundOf (t1 .0) (t2 .0) (trackOf (now (round .entry)) (now (journal .entry)) held) (led (planOf (length (now (round .entry))) (now (matrix .entry)) k (now (near .entry)) ka alpha) (t1 .0) (t2 .0) (trackOf (now (round .entry)) (now (journal .entry)) held) (trialIn first))) (now (queue .entry)) (line .head) (line .count) (now (journal .entry)) held (now (round .exit)) (now (places .exit)) (now (queue .exit)) (now (flags .exit)) (now (journal .exit)) (r .gain) (r .held) (r .line .head) (r .line .count)) ⌝ }
 {
-    let w = lk_walk(
-        matrix, near, k, round, places, journal, held, t1, t2, first,
-    );
+    let w = lk_walk(matrix, near, k, round, places, journal, held, t1, t2, first);
     let mark = w.mark;
     let h = rollback(round, places, scratch, journal, w.held, mark.held);
     let gain = mark.gain;
@@ -293,7 +291,20 @@ pub fn lk_side(
     let mut p = pick_at(ps, 0);
     while 0 < p.partial {
         let r = lk_deepen(
-            matrix, near, k, round, places, scratch, queue, flags, journal, h, l, t1, t2, p,
+            matrix,
+            near,
+            k,
+            round,
+            places,
+            scratch,
+            queue,
+            flags,
+            journal,
+            h,
+            l,
+            t1,
+            t2,
+            p,
         );
         if 0 < r.gain {
             return r;
@@ -341,12 +352,36 @@ pub fn lk_from(
         };
     }
     let r = lk_side(
-        matrix, near, k, round, places, scratch, queue, flags, journal, held, line, true, t1,
+        matrix,
+        near,
+        k,
+        round,
+        places,
+        scratch,
+        queue,
+        flags,
+        journal,
+        held,
+        line,
+        true,
+        t1,
     );
     if 0 < r.gain {
         return r;
     }
     lk_side(
-        matrix, near, k, round, places, scratch, queue, flags, journal, r.held, r.line, false, t1,
+        matrix,
+        near,
+        k,
+        round,
+        places,
+        scratch,
+        queue,
+        flags,
+        journal,
+        r.held,
+        r.line,
+        false,
+        t1,
     )
 }
