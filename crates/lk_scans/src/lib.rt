@@ -157,12 +157,12 @@ pub fn lk_first(
         let t3 = listed(near, k, n, t2, i);
         let d23 = dist(matrix, n, t2, t3);
         i = i + 1;
-        let over = g <= d23;
-        let barred = either(t3, t1, t2_next);
-        if over {
+        let t3_over = g <= d23;
+        let t3_barred = either(t3, t1, t2_next);
+        if t3_over {
             break;
         }
-        if barred {
+        if t3_barred {
             continue;
         }
         let t4 = behind(round, places, fwd, t3);

@@ -20,7 +20,7 @@ lk-walk-requires c κs = ((c .before .before .before .before .before .before .be
 
 -- src/lib.rt:245:9
 rollback-requires : tie.Need-rollback-requires
-rollback-requires c κs = (((c .before .before .before .before .before .before .before .before .before .before .before .lk-walk) .ensures 0 []) .tied, ((c .before .before .before .before .before .before .before .before .before .before .before .before .before .before .before .before .before .before .before .before .before .before .before .pre) .1 .1 .1 .1 .1 .0 ∙ sym ((c .before .before .before .before .before .before .before .before .before .before .before .lk-walk) .kept .1 .1 .1 .0), (((c .before .before .before .before .before .before .before .before .before .before .before .lk-walk) .ensures 0 []) .good, ((c .before .before .before .before .before .before .before .before .before .before .before .lk-walk) .ensures 0 []) .high)))
+rollback-requires c κs = (((c .before .before .before .before .before .before .before .before .before .before .before .lk-walk) .ensures 0 []) .tied, ((c .before .before .before .before .before .before .before .before .before .before .before .before .before .before .before .before .before .before .before .before .before .before .before .pre) .1 .1 .1 .1 .1 .0 ∙ sym ((c .before .before .before .before .before .before .before .before .before .before .before .lk-walk) .kept .1 .1 .1 .0), (((c .before .before .before .before .before .before .before .before .before .before .before .lk-walk) .ensures 0 []) .good, omega (arith, ((c .before .before .before .before .before .before .before .before .before .before .before .lk-walk) .ensures 0 []) .low, ((c .before .before .before .before .before .before .before .before .before .before .before .lk-walk) .ensures 0 []) .high))))
 
 -- src/lib.rt:248:9
 same-length : tie.Need-same-length
