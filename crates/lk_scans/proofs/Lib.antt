@@ -1,0 +1,3 @@
+pub mod ContLaws
+pub mod LeftLaws
+pub mod ShownLaws
