@@ -14,12 +14,12 @@ use Rattle.rules.specs.Lists.{at, keep}
 use Rattle.rules.specs.Ring.{succ, pred, ahead, beside}
 use Rattle.rules.specs.Moves.{two}
 use Rattle.rules.specs.Improve.{Trial, free3, free5, twos, sixths, trials}
-use Rattle.laws.proofs.ChoiceLaws.{true-false}
+use Rattle.laws.proofs.ChoiceLaws.{either-if, true-false}
 use Rattle.laws.proofs.LeftLaws.{fifths, sides, thirds, thirds-all, sides-turn, sides-done}
 use Rattle.laws.proofs.SkipLaws.{skip-done, skip-poor, skip-barred, skip-try}
 use Rattle.tries.specs.Picks.{Pick, pick, none, firstOf, triedTwo}
 use Rattle.tries.proofs.TryLaws.{two-tried}
-use Rattle.seeks.specs.Seeks.{Sought, sought, seekOf, betterOf, soughtFifth, Lasts}
+use Rattle.seeks.specs.Seeks.{Sought, sought, seekOf, betterOf, gainOf, soughtFifth, Lasts}
 use Rattle.seeks.proofs.SeekLaws.{part-closes, part-stays, first-closes, two-stays}
 use Rattle.seeks.proofs.FifthLaws.{fifth-sought}
 use Rattle.scans3.specs.Scans.{out3, out5}
@@ -41,7 +41,27 @@ neither : (a b : Bool) → (a || b) ≡ false → (a ≡ false) × (b ≡ false)
 neither true b e = absurd (true-false e)
 neither false b e = (refl, e)
 
-module _ (d : Legs) (list : Stop → List Stop) (may : Trial → Bool) (no-two : (x : Trial) → x.case ≡ two → may x ≡ false) (fwd : Bool) (r : Round) (t1 t2 : Stop) where
+-- an entry that is not skipped leaves a gain
+pub rich3 : (g d23 : Time) (t3 t1 next : Stop) (out : Bool) → out ≡ out3 g d23 t3 t1 next → out ≡ false → d23 < g
+unfolding out3
+rich3 g d23 t3 t1 next out e n = leb-false g d23 (neither (leb g d23) _ (sym e ∙ n) .0)
+
+pub rich5 : (g2 d45 : Time) (t5 t1 next prev : Stop) (out : Bool) → out ≡ out5 g2 d45 t5 t1 next prev → out ≡ false → d45 < g2
+unfolding out5
+rich5 g2 d45 t5 t1 next prev out e n = leb-false g2 d45 (neither (leb g2 d45) _ (sym e ∙ n) .0)
+
+-- no move has no gain; a 2-opt move has at most what it tried
+pub none-gain : (c : ℕ) (g : Time) (t3 t4 t5 t6 : Stop) → pick c g t3 t4 t5 t6 ≡ none → g ≡ 0
+unfolding none gainOf
+none-gain c g t3 t4 t5 t6 e = ap gainOf e
+
+pub two-small : (d : Legs) (after : Bool) (t1 t3 t4 : Stop) (g2 : Time) (c : ℕ) (w : Time) (s3 s4 s5 s6 : Stop) → pick c w s3 s4 s5 s6 ≡ triedTwo d after t1 t3 t4 g2 → w ≤ g2
+unfolding triedTwo twos firstOf none gainOf
+two-small d true t1 t3 t4 g2 c w s3 s4 s5 s6 e = let z : w ≡ 0 = ap gainOf e in omega arith
+two-small d false t1 t3 t4 g2 c w s3 s4 s5 s6 e =
+    either-if (λ (q : Pick). pick c w s3 s4 s5 s6 ≡ q → w ≤ g2) (ltb (d t4 t1) g2) (λ y f. let z : w ≡ g2 - d t4 t1 = ap gainOf f in omega arith) (λ y f. let z : w ≡ 0 = ap gainOf f in omega arith) e
+
+module _ (d : Legs) (list : Stop → List Stop) (may : Trial → Bool) (fwd : Bool) (r : Round) (t1 t2 : Stop) where
   -- what is found from entry i of t2's list on, at a gain g, with the best so far
   unfoldable pub sought3 : Pick → Time → ℕ → Sought
   sought3 so g i = seekOf d t1 may so (thirds d d list keep fwd r t1 t2 g (drop i (list t2)))
@@ -56,9 +76,9 @@ module _ (d : Legs) (list : Stop → List Stop) (may : Trial → Bool) (no-two :
       seekOf d t1 may so (fifths d d list keep fwd r t1 t2 after t3 t4 g2 (drop j (list t4)) ++ (sides d d list keep fwd r t1 t2 t3 g1 s ++ thirds d d list keep fwd r t1 t2 g (drop i (list t2))))
 
   -- ---- t3
-  pub all3 : (so : Pick) (g : Time) → sought3 so g 0 ≡ seekOf d t1 may so (trials d d list keep fwd r t1 t2 g)
+  pub all3 : (so : Pick) (g : Time) → so ≡ none → sought3 so g 0 ≡ seekOf d t1 may none (trials d d list keep fwd r t1 t2 g)
   unfolding sought3
-  all3 so g = ap (seekOf d t1 may so) (thirds-all d d list keep fwd r t1 t2 g)
+  all3 so g e = ap (seekOf d t1 may so) (thirds-all d d list keep fwd r t1 t2 g) ∙ ap (λ (q : Pick). seekOf d t1 may q (trials d d list keep fwd r t1 t2 g)) e
 
   pub done3 : (so : Pick) (g : Time) (i : ℕ) → length (list t2) ≤ i → sought3 so g i ≡ sought false so
   unfolding sought3 thirds seekOf
@@ -72,11 +92,11 @@ module _ (d : Legs) (list : Stop → List Stop) (may : Trial → Bool) (no-two :
     unfolding out3
     test3 = rw (← e3, ← en) eo
 
-    rich3 : leb g d23 ≡ false → ltb (d t2 (at (list t2) i)) g ≡ true
-    rich3 no = let e : d23 ≡ d t2 (at (list t2) i) = leg23 in let k : d t2 (at (list t2) i) < g = omega (arith, leb-false g d23 no) in lt-ltb _ _ k
+    on3 : leb g d23 ≡ false → ltb (d t2 (at (list t2) i)) g ≡ true
+    on3 low = let e : d23 ≡ d t2 (at (list t2) i) = leg23 in let k : d t2 (at (list t2) i) < g = omega (arith, leb-false g d23 low) in lt-ltb _ _ k
 
     poor3 : leb g d23 ≡ true → ltb (d t2 (at (list t2) i)) g ≡ false
-    poor3 yes = let e : d23 ≡ d t2 (at (list t2) i) = leg23 in let k : g ≤ d t2 (at (list t2) i) = omega (arith, leb-true g d23 yes) in le-ltb _ _ k
+    poor3 high = let e : d23 ≡ d t2 (at (list t2) i) = leg23 in let k : g ≤ d t2 (at (list t2) i) = omega (arith, leb-true g d23 high) in le-ltb _ _ k
 
     pub skip3 : out ≡ true → sought3 so g i ≡ sought3 so g (i + 1)
     unfolding sought3 thirds free3
@@ -84,13 +104,13 @@ module _ (d : Legs) (list : Stop → List Stop) (may : Trial → Bool) (no-two :
       where
         go : (leb g d23 ≡ true) ⊎ ((leb g d23 ≡ false) × ((eqb (at (list t2) i) t1 || eqb (at (list t2) i) (ahead fwd r t2)) ≡ true)) → sought3 so g i ≡ sought3 so g (i + 1)
         go (inl p) = ap (seekOf d t1 may so) (skip-poor _ (free3 fwd r t1 t2) (λ t. ltb (d t2 t) g) (list t2) i hi (poor3 p))
-        go (inr p) = ap (seekOf d t1 may so) (skip-barred _ (free3 fwd r t1 t2) (λ t. ltb (d t2 t) g) (list t2) i hi (rich3 (p .0)) (ap not (p .1)))
+        go (inr p) = ap (seekOf d t1 may so) (skip-barred _ (free3 fwd r t1 t2) (λ t. ltb (d t2 t) g) (list t2) i hi (on3 (p .0)) (ap not (p .1)))
 
     pub try3 : out ≡ false → sought3 so g i ≡ sought4 so t3 (g - d23) 0 g (i + 1)
     unfolding sought3 sought4 thirds free3
     try3 n =
         let p = neither (leb g d23) _ (sym test3 ∙ n) in
-        rw (e3, leg23) (ap (seekOf d t1 may so) (skip-try (λ t. sides d d list keep fwd r t1 t2 t (g - d t2 t) 0) (free3 fwd r t1 t2) (λ t. ltb (d t2 t) g) (list t2) i hi (rich3 (p .0)) (ap not (p .1))))
+        rw (e3, leg23) (ap (seekOf d t1 may so) (skip-try (λ t. sides d d list keep fwd r t1 t2 t (g - d t2 t) 0) (free3 fwd r t1 t2) (λ t. ltb (d t2 t) g) (list t2) i hi (on3 (p .0)) (ap not (p .1))))
 
   -- ---- the sides of t3
   module _ (so : Pick) (t3 : Stop) (g1 : Time) (s : ℕ) (g : Time) (i : ℕ) where
@@ -118,9 +138,9 @@ module _ (d : Legs) (list : Stop → List Stop) (may : Trial → Bool) (no-two :
         pub hit4 : 0 < w → sought4 so t3 g1 s g i ≡ sought true (pick c w s3 s4 s5 s6)
         hit4 k = turn4 ∙ first-closes d t1 may _ _ so c w s3 s4 s5 s6 tried k
 
-        pub miss4 : w ≤ 0 → sought4 so t3 g1 s g i ≡ sought5 so after t3 t4 (g1 + d34) 0 g1 (s + 1) g i
+        pub miss4 : ((x : Trial) → x.case ≡ two → may x ≡ false) → w ≤ 0 → sought4 so t3 g1 s g i ≡ sought5 so after t3 t4 (g1 + d34) 0 g1 (s + 1) g i
         unfolding sought5
-        miss4 k = turn4 ∙ two-stays d t1 may no-two list fwd r t2 after t3 t4 (g1 + d34) _ so c w s3 s4 s5 s6 tried k
+        miss4 no-two k = turn4 ∙ two-stays d t1 may no-two list fwd r t2 after t3 t4 (g1 + d34) _ so c w s3 s4 s5 s6 tried k
 
   -- ---- t5
   module _ (so : Pick) (after : Bool) (t3 t4 : Stop) (g2 : Time) (j : ℕ) (g1 : Time) (s : ℕ) (g : Time) (i : ℕ) where
@@ -136,23 +156,23 @@ module _ (d : Legs) (list : Stop → List Stop) (may : Trial → Bool) (no-two :
       unfolding out5
       test5 = rw (← e5, ← en, ← ep) eo
 
-      rich5 : leb g2 d45 ≡ false → ltb (d t4 (at (list t4) j)) g2 ≡ true
-      rich5 no = let e : d45 ≡ d t4 (at (list t4) j) = leg45 in let k : d t4 (at (list t4) j) < g2 = omega (arith, leb-false g2 d45 no) in lt-ltb _ _ k
+      on5 : leb g2 d45 ≡ false → ltb (d t4 (at (list t4) j)) g2 ≡ true
+      on5 low = let e : d45 ≡ d t4 (at (list t4) j) = leg45 in let k : d t4 (at (list t4) j) < g2 = omega (arith, leb-false g2 d45 low) in lt-ltb _ _ k
 
       poor5 : leb g2 d45 ≡ true → ltb (d t4 (at (list t4) j)) g2 ≡ false
-      poor5 yes = let e : d45 ≡ d t4 (at (list t4) j) = leg45 in let k : g2 ≤ d t4 (at (list t4) j) = omega (arith, leb-true g2 d45 yes) in le-ltb _ _ k
+      poor5 high = let e : d45 ≡ d t4 (at (list t4) j) = leg45 in let k : g2 ≤ d t4 (at (list t4) j) = omega (arith, leb-true g2 d45 high) in le-ltb _ _ k
 
       -- the trials that are left once t4's list is through
       later : List Trial
       later = sides d d list keep fwd r t1 t2 t3 g1 s ++ thirds d d list keep fwd r t1 t2 g (drop i (list t2))
 
       pub skip5 : out ≡ true → sought5 so after t3 t4 g2 j g1 s g i ≡ sought5 so after t3 t4 g2 (j + 1) g1 s g i
-      unfolding sought5 fifths free5
+      unfolding sought5 fifths free5 later
       skip5 y = go (poor-or-barred (leb g2 d45) _ (sym test5 ∙ y))
         where
           go : (leb g2 d45 ≡ true) ⊎ ((leb g2 d45 ≡ false) × ((eqb (at (list t4) j) t1 || (eqb (at (list t4) j) (succ r t4) || eqb (at (list t4) j) (pred r t4))) ≡ true)) → sought5 so after t3 t4 g2 j g1 s g i ≡ sought5 so after t3 t4 g2 (j + 1) g1 s g i
           go (inl p) = ap (λ (l : List Trial). seekOf d t1 may so (l ++ later)) (skip-poor (λ t. sixths d d list keep fwd r t1 t2 after t3 t4 t (g2 - d t4 t)) (free5 r t1 t4) (λ t. ltb (d t4 t) g2) (list t4) j hj (poor5 p))
-          go (inr p) = ap (λ (l : List Trial). seekOf d t1 may so (l ++ later)) (skip-barred (λ t. sixths d d list keep fwd r t1 t2 after t3 t4 t (g2 - d t4 t)) (free5 r t1 t4) (λ t. ltb (d t4 t) g2) (list t4) j hj (rich5 (p .0)) (ap not (p .1)))
+          go (inr p) = ap (λ (l : List Trial). seekOf d t1 may so (l ++ later)) (skip-barred (λ t. sixths d d list keep fwd r t1 t2 after t3 t4 t (g2 - d t4 t)) (free5 r t1 t4) (λ t. ltb (d t4 t) g2) (list t4) j hj (on5 (p .0)) (ap not (p .1)))
 
       module _ (n : out ≡ false) (closed : Bool) (p : Pick) (is : sought closed p ≡ soughtFifth d may so fwd r after t1 t2 t3 t4 t5 (g2 - d45)) where
         turn5 : sought5 so after t3 t4 g2 j g1 s g i ≡ seekOf d t1 may so (sixths d d list keep fwd r t1 t2 after t3 t4 t5 (g2 - d45) ++ (fifths d d list keep fwd r t1 t2 after t3 t4 g2 (drop (j + 1) (list t4)) ++ later))
@@ -161,7 +181,7 @@ module _ (d : Legs) (list : Stop → List Stop) (may : Trial → Bool) (no-two :
             let q = neither (leb g2 d45) _ (sym test5 ∙ n) in
             rw (e5, leg45)
             (ap (seekOf d t1 may so)
-            (ap (λ (l : List Trial). l ++ later) (skip-try (λ t. sixths d d list keep fwd r t1 t2 after t3 t4 t (g2 - d t4 t)) (free5 r t1 t4) (λ t. ltb (d t4 t) g2) (list t4) j hj (rich5 (q .0)) (ap not (q .1)))
+            (ap (λ (l : List Trial). l ++ later) (skip-try (λ t. sixths d d list keep fwd r t1 t2 after t3 t4 t (g2 - d t4 t)) (free5 r t1 t4) (λ t. ltb (d t4 t) g2) (list t4) j hj (on5 (q .0)) (ap not (q .1)))
             ∙ append-assoc (sixths d d list keep fwd r t1 t2 after t3 t4 (at (list t4) j) (g2 - d t4 (at (list t4) j))) _ later))
 
         seen5 : sought closed p ≡ seekOf d t1 may so (sixths d d list keep fwd r t1 t2 after t3 t4 t5 (g2 - d45))

@@ -132,7 +132,18 @@ pub fn seek_one<'a>(
         };
     }
     let on = goes_on(
-        matrix, near, k, n, added, adds, removed, cuts, deeper, t2, mv, best.gain,
+        matrix,
+        near,
+        k,
+        n,
+        added,
+        adds,
+        removed,
+        cuts,
+        deeper,
+        t2,
+        mv,
+        best.gain,
     );
     if on {
         return Sought { closed: false, mv };
@@ -184,7 +195,19 @@ pub fn seek_before<'a>(
         t6,
     };
     seek_one(
-        matrix, near, k, n, added, adds, removed, cuts, deeper, t1, t2, mv, best,
+        matrix,
+        near,
+        k,
+        n,
+        added,
+        adds,
+        removed,
+        cuts,
+        deeper,
+        t1,
+        t2,
+        mv,
+        best,
     )
 }
 
@@ -235,7 +258,19 @@ pub fn seek_after<'a>(
         t6: next,
     };
     let first = seek_one(
-        matrix, near, k, n, added, adds, removed, cuts, deeper, t1, t2, one, best,
+        matrix,
+        near,
+        k,
+        n,
+        added,
+        adds,
+        removed,
+        cuts,
+        deeper,
+        t1,
+        t2,
+        one,
+        best,
     );
     if first.closed {
         return first;
@@ -256,7 +291,19 @@ pub fn seek_after<'a>(
     };
     let so = first.mv;
     seek_one(
-        matrix, near, k, n, added, adds, removed, cuts, deeper, t1, t2, two, so,
+        matrix,
+        near,
+        k,
+        n,
+        added,
+        adds,
+        removed,
+        cuts,
+        deeper,
+        t1,
+        t2,
+        two,
+        so,
     )
 }
 
@@ -291,12 +338,44 @@ pub fn seek_fifth<'a>(
 {
     if after {
         return seek_after(
-            matrix, near, k, round, places, added, adds, removed, cuts, deeper, fwd, g3,
-            t1, t2, t3, t4, t5, best,
+            matrix,
+            near,
+            k,
+            round,
+            places,
+            added,
+            adds,
+            removed,
+            cuts,
+            deeper,
+            fwd,
+            g3,
+            t1,
+            t2,
+            t3,
+            t4,
+            t5,
+            best,
         );
     }
     seek_before(
-        matrix, near, k, round, places, added, adds, removed, cuts, deeper, fwd, g3,
-        t1, t2, t3, t4, t5, best,
+        matrix,
+        near,
+        k,
+        round,
+        places,
+        added,
+        adds,
+        removed,
+        cuts,
+        deeper,
+        fwd,
+        g3,
+        t1,
+        t2,
+        t3,
+        t4,
+        t5,
+        best,
     )
 }
