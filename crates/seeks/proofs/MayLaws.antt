@@ -204,8 +204,3 @@ may-rich n matrix k near added removed deeper t2 x e =
     let low : Time = legIn n matrix x.t6 (at (listIn k near x.t6) 0) in
     let ok : (ltb low x.partial && unbarred added removed t2 x.t3 x.t4 x.t5 x.t6) ≡ true = case-ok x.case deeper (ltb low x.partial && unbarred added removed t2 x.t3 x.t4 x.t5 x.t6) e in
     omega (arith, ltb-true low x.partial (and-true (ltb low x.partial) (unbarred added removed t2 x.t3 x.t4 x.t5 x.t6) ok .0))
-
--- of a plan and a step
-pub may-step : (p : Plan) (s : Step) (t2 : Stop) (xs : List Trial) → keep (mayIn p.n p.matrix p.k p.near s.added s.removed true t2) xs ≡ keep (mayGoOn p s t2) xs
-unfolding mayIn mayGoOn mayMove legOf nearOf
-may-step p s t2 xs = refl

@@ -1,0 +1,3 @@
+pub mod ClosingLaws
+pub mod GrowLaws
+pub mod LevelLaws
