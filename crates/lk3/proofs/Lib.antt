@@ -1,3 +1,4 @@
 pub mod ClosingLaws
 pub mod GrowLaws
 pub mod LevelLaws
+pub mod NextLaws

@@ -10,11 +10,12 @@ ghost use Rattle.rules.specs.Journal.{trackOf};
 ghost use Rattle.rules.specs.Moves.{seq3};
 ghost use Rattle.rules.specs.Queue.{pushAll, waiting};
 ghost use Rattle.rules.specs.Lk3.{breadth3, lk3Side, lk3From};
-ghost use Rattle.rules.specs.Contracts.{Tied};
+ghost use Rattle.rules.specs.Contracts.{Tied, Listed};
 ghost use Rattle.journal.specs.Journalled.{Journalled};
 ghost use Rattle.queue.specs.Lines.{InLine, Waits};
 ghost use Rattle.moves.specs.Moves.{Six, caseOf};
 ghost use Rattle.improve.specs.Steps.{Stepped};
+ghost use Rattle.scans.specs.Scans.{Ready};
 ghost use Rattle.lk_state.specs.Stacks.{Stepping};
 ghost use Rattle.lk_state.specs.States.{Roomy};
 ghost use Rattle.lk3.specs.Levels.{planOf, Stacked, Grown, Step3, Level3, foundAt, queuedBy};
@@ -267,10 +268,104 @@ pub fn lk3_level_dir(
     if 0 < o.gain {
         return o;
     }
+    let waits = o.line;
     let back = rollback(round, places, scratch, journal, o.held, held);
     Gained {
         gain: 0,
         held: back,
-        line: o.line,
+        line: waits,
     }
+}
+
+// The step with t2 on one side of t1.
+pub fn lk3_side(
+    matrix: &[u16],
+    near: &[u32],
+    k: usize,
+    alpha: &[u32],
+    ka: usize,
+    round: &mut [u32],
+    places: &mut [u32],
+    scratch: &mut [u32],
+    queue: &mut [u32],
+    flags: &mut [u8],
+    journal: &mut [u32],
+    held: usize,
+    line: Line,
+    fwd: bool,
+    t1: Stop,
+) -> Gained
+    requires { ⌜ Step3 (now matrix) (now near) k (now alpha) ka (now round) (now places) (now scratch) (now queue) (now flags) (line .head) (line .count) (t1 .0) ⌝ }
+    requires { ⌜ Journalled (length (now round)) (now journal) held 100 ⌝ }
+    ensures { λ r. ⌜ Stepped 100 (lk3Side (planOf (length (now (round .entry))) (now (matrix .entry)) k (now (near .entry)) ka (now (alpha .entry))) (t1 .0) fwd (trackOf (now (round .entry)) (now (journal .entry)) held)) (now (queue .entry)) (line .head) (line .count) (now (journal .entry)) held (now (round .exit)) (now (places .exit)) (now (queue .exit)) (now (flags .exit)) (now (journal .exit)) (r .gain) (r .held) (r .line .head) (r .line .count) ⌝ }
+{
+    let n = round.len();
+    let t2 = ahead(round, places, fwd, t1);
+    let d12 = dist(matrix, n, t1, t2);
+    let st = lk_new(t1, t2);
+    lk3_level(
+        matrix, near, k, alpha, ka, round, places, scratch, queue, flags, journal, held, line, st,
+        t1, t2, d12, 0,
+    )
+}
+
+// The step from t1, with t2 after it, then before it; 0 below 5 stops.
+pub fn lk3_from(
+    matrix: &[u16],
+    near: &[u32],
+    k: usize,
+    alpha: &[u32],
+    ka: usize,
+    round: &mut [u32],
+    places: &mut [u32],
+    scratch: &mut [u32],
+    queue: &mut [u32],
+    flags: &mut [u8],
+    journal: &mut [u32],
+    held: usize,
+    line: Line,
+    t1: Stop,
+) -> Gained
+    requires { ⌜ Ready (now matrix) (now near) k (now round) (now places) ⌝ }
+    requires { ⌜ 1 ≤ k ⌝ }
+    requires { ⌜ Listed (now alpha) ka (length (now round)) ⌝ }
+    requires { ⌜ t1 .0 < length (now round) ⌝ }
+    requires { ⌜ length (now scratch) ≡ length (now round) ⌝ }
+    requires { ⌜ length (now queue) ≡ length (now round) ⌝ }
+    requires { ⌜ InLine (now queue) (now flags) (line .head) (line .count) ⌝ }
+    requires { ⌜ Journalled (length (now round)) (now journal) held 100 ⌝ }
+    ensures { λ r. ⌜ Stepped 100 (lk3From (record { n = length (now (round .entry)); matrix = now (matrix .entry); k = k; near = now (near .entry); ka = ka; alpha = now (alpha .entry) }) (t1 .0) (trackOf (now (round .entry)) (now (journal .entry)) held)) (now (queue .entry)) (line .head) (line .count) (now (journal .entry)) held (now (round .exit)) (now (places .exit)) (now (queue .exit)) (now (flags .exit)) (now (journal .exit)) (r .gain) (r .held) (r .line .head) (r .line .count) ⌝ }
+{
+    if round.len() < 5 {
+        return Gained {
+            gain: 0,
+            held,
+            line,
+        };
+    }
+    let after = lk3_side(
+        matrix, near, k, alpha, ka, round, places, scratch, queue, flags, journal, held, line, true,
+        t1,
+    );
+    if 0 < after.gain {
+        return after;
+    }
+    let waits = after.line;
+    lk3_side(
+        matrix,
+        near,
+        k,
+        alpha,
+        ka,
+        round,
+        places,
+        scratch,
+        queue,
+        flags,
+        journal,
+        after.held,
+        waits,
+        false,
+        t1,
+    )
 }
