@@ -35,6 +35,11 @@ breadth-read zero h = refl
 breadth-read (suc zero) h = refl
 breadth-read (suc (suc level)) h = absurd (omega arith)
 
+-- more stops queued change no gain
+pub touching-gain : (vs : List Stop) (f : Found) → touching vs f .gain ≡ f.gain
+unfolding touching
+touching-gain vs f = by-gain (λ (z : Found). z.gain ≡ f.gain) f.gain {x = f} {y = λ g. record { gain = suc g; track = f.track; touched = vs ++ f.touched }} (λ e. refl) (λ g e. sym e)
+
 -- ---- a level that gains nothing leaves the track as it was
 module _ (p : Plan) (t1 : Stop) where
   each-none : (fwd : Bool) (t2 : Stop) (s : Step) (deeper : Step → Stop → Time → Found) (xs : List Trial) → tryEach3 fwd t1 t2 s deeper xs .gain ≡ 0 → tryEach3 fwd t1 t2 s deeper xs ≡ nothing s.track
@@ -43,10 +48,6 @@ module _ (p : Plan) (t1 : Stop) where
   each-none fwd t2 s deeper (x ∷ xs) e =
       let f = deeper (moved3 fwd t1 t2 s x) x.t6 x.partial in
       by-gain (λ (z : Found). z.gain ≡ 0 → z ≡ nothing s.track) f.gain {x = tryEach3 fwd t1 t2 s deeper xs} {y = λ g. f} (λ q. each-none fwd t2 s deeper xs) (λ g q z. absurd (omega arith)) e
-
-  touching-gain : (vs : List Stop) (f : Found) → touching vs f .gain ≡ f.gain
-  unfolding touching
-  touching-gain vs f = by-gain (λ (z : Found). z.gain ≡ f.gain) f.gain {x = f} {y = λ g. record { gain = suc g; track = f.track; touched = vs ++ f.touched }} (λ e. refl) (λ g e. sym e)
 
   pub level3-none : (levels : ℕ) (s : Step) (t2 : Stop) (g : Time) → level3 p t1 levels s t2 g .gain ≡ 0 → level3 p t1 levels s t2 g ≡ nothing s.track
   unfolding level3

@@ -17,7 +17,6 @@ use Rattle.rules.specs.Improve.{Found, endsOf, nothing, touching}
 use Rattle.rules.specs.Step.{Step, going}
 use Rattle.rules.specs.Lk3.{level3, moved3}
 use Rattle.rules.specs.Contracts.{Tied}
-use Rattle.laws.proofs.ChoiceLaws.{by-gain}
 use Rattle.laws.proofs.JournalLaws.{Past, past-rollback, entriesOf-length}
 use Rattle.laws.proofs.Lone3Laws.{touching-some}
 use Rattle.laws.proofs.QueueLaws.{pushAll-join}
@@ -34,7 +33,7 @@ use Rattle.tries.specs.Picks.{pick}
 use Rattle.seeks.specs.Seeks.{Sought, sought, moveTrial}
 use Rattle.scans3.specs.Scans.{scanOf}
 use Rattle.lk3.specs.Levels.{Grown, foundAt, queuedBy}
-use Rattle.lk3.proofs.ClosingLaws.{level3-none, level-closes, level-gain, level-off, on-deeper, on-three, level-gains, level-fails}
+use Rattle.lk3.proofs.ClosingLaws.{touching-gain, level3-none, level-closes, level-gain, level-off, on-deeper, on-three, level-gains, level-fails}
 
 -- ---- the queue
 module _ (q : List Stop) (t1 first : Stop) (steps : List ℕ) (len c : ℕ) (t3 t4 t5 t6 : Stop) where
@@ -53,13 +52,9 @@ pub stepping-at : (ws : List ℕ) (len n n′ : ℕ) → n ≡ n′ → Stepping
 stepping-at ws len n n′ e s = rw e at s
 
 -- ---- what a level finds
-touching-none : (vs : List Stop) (f : Found) (t : Track) → f ≡ nothing t → touching vs f ≡ nothing t
+pub touching-none : (vs : List Stop) (f : Found) (t : Track) → f ≡ nothing t → touching vs f ≡ nothing t
 unfolding touching nothing
 touching-none vs f t e = rw e
-
-touching-gain : (vs : List Stop) (f : Found) → touching vs f .gain ≡ f.gain
-unfolding touching
-touching-gain vs f = by-gain (λ (z : Found). z.gain ≡ f.gain) f.gain {x = f} {y = λ g. record { gain = suc g; track = f.track; touched = vs ++ f.touched }} (λ e. refl) (λ g e. sym e)
 
 module _ (p : Plan) (t1 : Stop) (st : LkState) (t : Track) (t2 : Stop) (g : Time) (level : ℕ) where
   -- no gain: all is as it was
