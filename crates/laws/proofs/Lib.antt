@@ -21,6 +21,7 @@ pub mod LandLaws
 pub mod LeftLaws
 pub mod Lk3Laws
 pub mod LkLaws
+pub mod Lone3Laws
 pub mod LoneLaws
 pub mod MoveWayLaws
 pub mod NearestLaws
@@ -41,6 +42,7 @@ pub mod SearchTimeLaws
 pub mod SegmentLaws
 pub mod SetLaws
 pub mod SinceLaws
+pub mod SkipLaws
 pub mod SpanLaws
 pub mod SpotLaws
 pub mod StartLaws
