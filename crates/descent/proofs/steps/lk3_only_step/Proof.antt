@@ -34,7 +34,7 @@ unfolding trackOf
 returns c = let a = (c .before .before .before .before .before .before .before .before .before .before .before .before .before .before .before .before .before .before .before .before .before .before .before .before .before .before .before .before .before .args) in let t = trackOf (a .round .now) (a .journal .now) (a .held) in let p = planOf (length (a .round .now)) (a .matrix .now) (a .k) (a .near .now) (a .ka) (a .alpha .now) in stepped-more (stepped-is (few-is p (a .v .0) t (omega (arith, ((c .before .before .before .before .before .before .before .before .before .before .before .before .before .before .before .before .before .before .before .if1)) .taken))) (((c .before .before .before .before .before .before .before .before .before .before .before .before .improve-both)) .ensures (a .ka) (a .alpha .now))) (omega arith)
 
 lk3-from-requires : tie.Need-lk3-from-requires
-lk3-from-requires c κs = let h = ((c .before .before .before .before .before .before .before .before .before .before .before .before .before .before .before .before .pre)) .0 in (h .ready, (h .some, (h .alphas, (((c .before .before .before .before .before .before .before .before .before .before .before .before .before .before .before .before .pre)) .1 .0, (h .scratch-long, (h .queue-long, (h .line, (((c .before .before .before .before .before .before .before .before .before .before .before .before .before .before .before .before .pre)) .1 .1, ?))))))))
+lk3-from-requires c κs = let h = ((c .before .before .before .before .before .before .before .before .before .before .before .before .before .before .before .before .pre)) .0 in (h .ready, (h .some, (h .alphas, (((c .before .before .before .before .before .before .before .before .before .before .before .before .before .before .before .before .pre)) .1 .0, (h .scratch-long, (h .queue-long, (h .line, ((c .before .before .before .before .before .before .before .before .before .before .before .before .before .before .before .before .pre)) .1 .1)))))))
 
 same-length-7 : tie.Need-same-length-7
 same-length-7 c = search needs
