@@ -22,7 +22,7 @@ use Rattle.journal.specs.Journalled.{Journalled, Grew, Back}
 use Rattle.journal.proofs.GrewLaws.{grew-grew, grew-back}
 use Rattle.queue.specs.Lines.{InLine, Waits}
 use Rattle.moves.specs.Moves.{Made}
-use Rattle.improve.specs.Steps.{nearPlan, Stepped}
+use Rattle.improve.specs.Steps.{planOf, nearPlan, Stepped}
 use Rattle.improve.proofs.StepLaws.{stepped-none, stepped-some}
 use Rattle.lk_state.specs.Stacks.{stopsIn}
 use Rattle.lk_scans.specs.Picked.{stepIn, contsIn, contIs, trialIn, shown, shownFrom, Firsts, IsAt}
@@ -30,7 +30,7 @@ use Rattle.lk_scans.specs.declared.Pick.{Pick}
 use Rattle.lk_scans.specs.declared.Picks.{Picks}
 use Rattle.lk_scans.proofs.ShownLaws.{shown-none, shown-some}
 use Rattle.lk.proofs.WalkLaws.{less-or}
-use Rattle.lk.specs.Walks.{planOf, led, foundOf, Walked}
+use Rattle.lk.specs.Walks.{led, foundOf, Walked}
 
 -- ---- what a best closed gain is as what is found
 module _ (t1 t2 : Stop) (t : Track) (b : Best) where
@@ -147,7 +147,7 @@ module _ (p : Plan) (t1 t2 : Stop) (t : Track) where
 pub side-all : (matrix : List Time) (k : ℕ) (near : List Stop) (ka : ℕ) (alpha : List Stop) (t1 t2 : Stop) (fwd : Bool) (r : Round) (j : List ℕ) (held : ℕ) (g : Time) (ps : Picks) → t2 ≡ ahead fwd r t1 → g ≡ legIn (length r) matrix t1 t2
     → Firsts (length r) g (best 3 [] (contsIn (length r) matrix k near r [] (leg t1 t2 ∷ []) t1 t2 g)) ps
     → sideFrom (planOf (length r) matrix k near ka alpha) t1 t2 (trackOf r j held) (shownFrom 0 ps) ≡ lkSide (planOf (length r) matrix k near ka alpha) t1 fwd (trackOf r j held)
-unfolding sideFrom lkSide deepen breadth foundOf planOf trackOf contsIn conts contOf mayFlip stepIn nearPlan legOf nearOf begin
+unfolding sideFrom lkSide deepen breadth foundOf trackOf contsIn conts contOf mayFlip stepIn nearPlan legOf nearOf begin
 side-all matrix k near ka alpha t1 t2 fwd r j held g ps e2 eg f =
     ap (sideFrom (planOf (length r) matrix k near ka alpha) t1 t2 (trackOf r j held)) (f .is ∙ ap (λ (d : Time). best 3 [] (contsIn (length r) matrix k near r [] (leg t1 t2 ∷ []) t1 t2 d)) eg)
     ∙ ap (λ (v : Stop). sideFrom (planOf (length r) matrix k near ka alpha) t1 v (trackOf r j held) (best 3 [] (contsIn (length r) matrix k near r [] (leg t1 v ∷ []) t1 v (legIn (length r) matrix t1 v)))) e2

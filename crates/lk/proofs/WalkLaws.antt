@@ -25,13 +25,13 @@ use Rattle.laws.proofs.TiedLaws.{tied-perm}
 use Rattle.journal.specs.Journalled.{Journalled, Grew}
 use Rattle.journal.proofs.GrewLaws.{grew-self, grew-grew}
 use Rattle.moves.specs.Moves.{Made}
-use Rattle.improve.specs.Steps.{nearPlan}
+use Rattle.improve.specs.Steps.{planOf, nearPlan}
 use Rattle.lk_state.specs.Stacks.{legsIn, stopsIn, Stepping}
 use Rattle.lk_state.specs.States.{stepOf, Roomy, Begun}
 use Rattle.lk_state.specs.declared.LkState.{LkState}
 use Rattle.lk_state.proofs.StackLaws.{stepping-less}
 use Rattle.lk_scans.specs.Picked.{stepIn, contsIn, contIs, shown, Picked, Fine}
-use Rattle.lk.specs.Walks.{planOf, led, stepAt, bestAt, Noted, Closed, Leveled, Walked}
+use Rattle.lk.specs.Walks.{led, stepAt, bestAt, Noted, Closed, Leveled, Walked}
 use Rattle.lk.proofs.OnLaws.{onward, onward-none, onward-some, level-on}
 
 held-length : (r : Round) (j : List ℕ) (h : ℕ) → length (trackOf r j h .journal) ≡ h
@@ -166,7 +166,7 @@ module _ {round₀ : Round} {j₀ : List ℕ} {held : ℕ} {round : Round} {plac
 
     best-is : closing ≡ legIn n matrix t4 t1
         → bestAt st′ gain′ len′ mark′ (trackOf round′ j′ h′) ≡ better (bestAt st gain len mark (trackOf round j h)) (flipped t1 end (stepAt st level (trackOf round j h)) (contIs partial t3 t4)) partial (legOf (planOf n matrix k near ka alpha) t4 t1)
-    unfolding better legOf planOf bestAt
+    unfolding better legOf bestAt
     best-is e =
         subst (λ (d : Time). bestAt st′ gain′ len′ mark′ (trackOf round′ j′ h′) ≡ better (bestAt st gain len mark (trackOf round j h)) (flipped t1 end (stepAt st level (trackOf round j h)) (contIs partial t3 t4)) partial d) e
         (either-if (λ (z : Best). bestAt st′ gain′ len′ mark′ (trackOf round′ j′ h′) ≡ z) (ltb (closing + gain) partial)
@@ -188,7 +188,7 @@ module _ {round₀ : Round} {j₀ : List ℕ} {held : ℕ} {round : Round} {plac
 module _ (n : ℕ) (matrix : List Time) (k : ℕ) (near : List Stop) (ka : ℕ) (alpha : List Stop) (t1 t4 : Stop) (partial : Time) (st : LkState) (level : ℕ) (round : Round) (j : List ℕ) (h : ℕ) (b goal : Best) where
   scans-same : conts (planOf n matrix k near ka alpha) (eqb (succ round t1) t4) (stepAt st (level + 1) (trackOf round j h)) t1 t4 partial
       ≡ contsIn n matrix k near round (legsIn (st .added) (level + 1)) (legsIn (st .removed) (level + 1 + 1)) t1 t4 partial
-  unfolding contsIn conts contOf mayFlip stepIn nearPlan planOf stepAt trackOf legOf nearOf
+  unfolding contsIn conts contOf mayFlip stepIn nearPlan stepAt trackOf legOf nearOf
   scans-same = refl
 
   -- its scan has picked a continuation, or none; the 25th was the last

@@ -18,10 +18,6 @@ use Rattle.lk_state.specs.States.{Roomy}
 use Rattle.lk_state.specs.declared.LkState.{LkState}
 use Rattle.lk_scans.specs.Picked.{shown, contIs, Fine}
 
--- the plan of what is lent, with any alpha lists: LK reads none
-unfoldable pub planOf : ℕ → List Time → ℕ → List Stop → ℕ → List Stop → Plan
-planOf n matrix k near ka alpha = record { n = n; matrix = matrix; k = k; near = near; ka = ka; alpha = alpha }
-
 -- what the continuation x of the first level leads to
 unfoldable pub led : Plan → Stop → Stop → Track → Trial → Best
 led p t1 t2 t x =
