@@ -1,7 +1,7 @@
 -- 01, 7: `improve` is the move that the scans choose, carried out.
 use Prim.Native.Nat.{ℕ, zero, suc, _-_, _≤_, _<_}
 use mathlib.Core.Path.{_≡_, refl, sym, ap, _∙_}
-use mathlib.Core.Bool.{Bool}
+use mathlib.Core.Bool.{Bool, true, false}
 use mathlib.Core.List.{List, [], _∷_, _++_}
 use native.Mathlib.Omega.{arith}
 use borrow.Author.Tests.{ltb-true}
@@ -12,12 +12,12 @@ use Rattle.rules.specs.Ring.{ahead}
 use Rattle.rules.specs.Journal.{Track}
 use Rattle.rules.specs.Moves.{Case, two, flips, segment, inner, seq3}
 use Rattle.rules.specs.Plan.{legIn, legOf, nearOf}
-use Rattle.rules.specs.Improve.{Trial, endsOf, Found, nothing, firstClosing, touching, improve}
+use Rattle.rules.specs.Improve.{Trial, endsOf, Found, nothing, firstClosing, touching, improve, orElse, improveBoth}
 use Rattle.laws.proofs.ChoiceLaws.{either-if}
 use Rattle.moves.specs.Moves.{numberOf, caseOf}
 use Rattle.tries.specs.Picks.{Pick, pick, none, firstOf}
 use Rattle.scans.specs.Scans.{foundIn}
-use Rattle.improve.specs.Steps.{nearPlan, trialOf}
+use Rattle.improve.specs.Steps.{planOf, nearPlan, trialOf}
 
 gainOf : Pick → Time
 gainOf (pick c g t3 t4 t5 t6) = g
@@ -82,3 +82,13 @@ module _ (matrix : List Time) (k : ℕ) (near : List Stop) (fwd : Bool) (t1 : St
   unfolding improve nearPlan legOf nearOf foundIn carried
   improve-some t2 e h =
       rw (e, closing-some (legIn (length (t .round)) matrix) fwd t1 (ahead fwd (t .round) t1) t _ c g t3 t4 t5 t6 is h) (touch (t1 ∷ ahead fwd (t .round) t1 ∷ []) g _ _ h)
+
+module _ (n : ℕ) (matrix : List Time) (k : ℕ) (near : List Stop) (ka : ℕ) (alpha : List Stop) (t1 : Stop) (t : Track) where
+  -- it reads no alpha list
+  pub improve-any : (fwd : Bool) → improve (nearPlan n matrix k near) fwd t1 t ≡ improve (planOf n matrix k near ka alpha) fwd t1 t
+  unfolding improve nearPlan planOf legOf nearOf
+  improve-any fwd = refl
+
+  pub both-is : orElse (improve (planOf n matrix k near ka alpha) true t1 t) (improve (planOf n matrix k near ka alpha) false t1) ≡ improveBoth (planOf n matrix k near ka alpha) t1 t
+  unfolding improveBoth
+  both-is = refl

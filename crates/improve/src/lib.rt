@@ -5,12 +5,12 @@ ghost use Prim.Native.Nat.{ℕ, _<_};
 ghost use lib.ListN.{length};
 ghost use Rattle.rules.specs.Journal.{trackOf};
 ghost use Rattle.rules.specs.Queue.{pushAll, waiting};
-ghost use Rattle.rules.specs.Improve.{endsOf, improve as improveOf};
+ghost use Rattle.rules.specs.Improve.{endsOf, improve as improveOf, improveBoth};
 ghost use Rattle.journal.specs.Journalled.{Journalled};
 ghost use Rattle.queue.specs.Lines.{InLine, Waits};
 ghost use Rattle.moves.specs.Moves.{Six};
 ghost use Rattle.scans.specs.Scans.{Ready};
-ghost use Rattle.improve.specs.Steps.{nearPlan, trialOf, Stepped};
+ghost use Rattle.improve.specs.Steps.{planOf, nearPlan, trialOf, Stepped};
 use legs::Stop;
 use moves::moves::Move;
 use moves::moves::apply_seq3;
@@ -96,4 +96,63 @@ pub fn improve(
         held: h,
         line: l,
     }
+}
+
+// `improve`, forward then backward; whatever the alpha lists are, it reads none.
+pub fn improve_both(
+    matrix: &[u16],
+    near: &[u32],
+    k: usize,
+    round: &mut [u32],
+    places: &mut [u32],
+    scratch: &mut [u32],
+    queue: &mut [u32],
+    flags: &mut [u8],
+    journal: &mut [u32],
+    held: usize,
+    line: Line,
+    t1: Stop,
+) -> Gained
+    requires { ⌜ Ready (now matrix) (now near) k (now round) (now places) ⌝ }
+    requires { ⌜ t1 .0 < length (now round) ⌝ }
+    requires { ⌜ length (now scratch) ≡ length (now round) ⌝ }
+    requires { ⌜ length (now queue) ≡ length (now round) ⌝ }
+    requires { ⌜ InLine (now queue) (now flags) (line .head) (line .count) ⌝ }
+    requires { ⌜ Journalled (length (now round)) (now journal) held 2 ⌝ }
+    ensures { λ r. ⌜ ((ka : ℕ) (alpha : List ℕ) → Stepped 2 (improveBoth (planOf (length (now (round .entry))) (now (matrix .entry)) k (now (near .entry)) ka alpha) (t1 .0) (trackOf (now (round .entry)) (now (journal .entry)) held)) (now (queue .entry)) (line .head) (line .count) (now (journal .entry)) held (now (round .exit)) (now (places .exit)) (now (queue .exit)) (now (flags .exit)) (now (journal .exit)) (r .gain) (r .held) (r .line .head) (r .line .count)) ⌝ }
+{
+    let a = improve(
+        matrix,
+        near,
+        k,
+        round,
+        places,
+        scratch,
+        queue,
+        flags,
+        journal,
+        held,
+        line,
+        true,
+        t1,
+    );
+    if 0 < a.gain {
+        return a;
+    }
+    let left = a.line;
+    improve(
+        matrix,
+        near,
+        k,
+        round,
+        places,
+        scratch,
+        queue,
+        flags,
+        journal,
+        a.held,
+        left,
+        false,
+        t1,
+    )
 }

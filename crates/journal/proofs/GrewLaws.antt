@@ -1,14 +1,15 @@
 -- A journal's words grow by those of its newer entries, and a rollback takes them away again.
 use Prim.Native.Nat.{ℕ, zero, suc, _+_, _-_, _*_, _≤_}
 use mathlib.Core.Path.{_≡_, refl, sym, ap, _∙_}
-use mathlib.Core.List.{List, [], _∷_, _++_, append-assoc, append-nil, reverse, reverse-cons, reverse-reverse}
+use mathlib.Core.List.{List, [], _∷_, _++_, append-assoc, append-nil, reverse, reverse-reverse}
 use native.Mathlib.Omega.{arith}
 use native.Mathlib.Nat.{add-zero}
 use lib.ListN.{length, take, length-append, length-take, length-reverse}
-use lib.Seq.{take-nil, take-take, take-at, take-append-add, take-append-seam, append-snoc, length-take-le}
+use lib.Seq.{take-nil, take-take, take-at, take-append-add, take-append-seam, length-take-le}
 use Rattle.rules.specs.Lists.{each}
 use Rattle.rules.specs.Journal.{Entry, wordsOf, entriesOf}
-use Rattle.laws.proofs.JournalWordLaws.{entries-same, entries-more, length-words}
+use Rattle.laws.proofs.JournalWordLaws.{length-words}
+use Rattle.laws.proofs.NewerLaws.{entries-newer}
 use Rattle.journal.specs.Journalled.{Grew}
 
 pub grew-self : (ws : List ℕ) (held : ℕ) → Grew ws held ws held
@@ -52,26 +53,6 @@ grew-back us ws a c mark fits h k g =
     }
 
 -- ---- the newer entries are those that the words stand for, so the words are determined
-entries-newer : (es : List Entry) (ws vs : List ℕ) (held : ℕ) → 5 * held ≤ length vs → take (5 * (held + length es)) ws ≡ take (5 * held) vs ++ each wordsOf es
-    → entriesOf ws (held + length es) ≡ reverse es ++ entriesOf vs held
-unfolding each
-entries-newer [] ws vs held fits w =
-    let q : held + 0 ≡ held = add-zero held in
-    let w′ : take (5 * held) ws ≡ take (5 * held) vs = rw (q, append-nil (take (5 * held) vs)) at w in
-    rw q (entries-same ws vs held w′)
-entries-newer (e ∷ es) ws vs held fits w =
-    let l : length (take (5 * held) vs) ≡ 5 * held = length-take-le (5 * held) vs fits in
-    let le : length (wordsOf e) ≡ 5 = length-words e in
-    let a : length (take (5 * held) vs ++ wordsOf e) ≡ 5 * (held + 1) = simp length-append (omega arith) in
-    let w2 : take (5 * (held + suc (length es))) ws ≡ (take (5 * held) vs ++ wordsOf e) ++ each wordsOf es = w ∙ sym (append-assoc (take (5 * held) vs) (wordsOf e) (each wordsOf es)) in
-    let w1 : take (5 * (held + 1)) ws ≡ take (5 * held) vs ++ wordsOf e
-    = sym (take-take (5 * (held + 1)) (5 * (held + suc (length es))) ws (omega arith)) ∙ ap (take (5 * (held + 1))) w2 ∙ take-at (take (5 * held) vs ++ wordsOf e) (each wordsOf es) (5 * (held + 1)) a in
-    let q : held + suc (length es) ≡ held + 1 + length es = omega arith in
-    let w3 : take (5 * (held + 1 + length es)) ws ≡ take (5 * (held + 1)) ws ++ each wordsOf es = ap (λ (m : ℕ). take (5 * m) ws) (sym q) ∙ w2 ∙ ap (λ (x : List ℕ). x ++ each wordsOf es) (sym w1) in
-    let f : 5 * (held + 1) ≤ length ws = omega (arith, length-take (5 * (held + 1)) ws, ap length w1, a) in
-    ap (entriesOf ws) q ∙ entries-newer es ws ws (held + 1) f w3 ∙ ap (λ (x : List Entry). reverse es ++ x) (entries-more ws vs held e fits w1)
-    ∙ sym (append-snoc (reverse es) e (entriesOf vs held)) ∙ ap (λ (x : List Entry). x ++ entriesOf vs held) (sym (reverse-cons e es))
-
 -- 01, what the calls leave: the words held stay, and behind them stand the words of the entries that are new
 pub grew-left : (j : List ℕ) (held : ℕ) (j′ : List ℕ) (held′ : ℕ) → 5 * held ≤ length j → Grew j held j′ held′
     → take (5 * held′) j′ ≡ take (5 * held) j ++ each wordsOf (reverse (take (held′ - held) (entriesOf j′ held′)))

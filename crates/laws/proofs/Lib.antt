@@ -1,3 +1,4 @@
+pub mod AcceptLaws
 pub mod BoundLaws
 pub mod CellLaws
 pub mod CheckLaws
@@ -8,6 +9,7 @@ pub mod EntryLaws
 pub mod EvenLaws
 pub mod EveryLaws
 pub mod ExactLaws
+pub mod FailLaws
 pub mod FlipLaws
 pub mod GainLaws
 pub mod InLaws
@@ -18,12 +20,14 @@ pub mod KickLaws
 pub mod KickTimeLaws
 pub mod KickedLaws
 pub mod LandLaws
+pub mod LeavesLaws
 pub mod LeftLaws
 pub mod Lk3Laws
 pub mod LkLaws
 pub mod LoneLaws
 pub mod MoveWayLaws
 pub mod NearestLaws
+pub mod NewerLaws
 pub mod OnwardLaws
 pub mod OrMoveLaws
 pub mod OrderLaws
@@ -47,6 +51,7 @@ pub mod StartLaws
 pub mod StartNumberLaws
 pub mod StartRoundLaws
 pub mod StateLaws
+pub mod StayLaws
 pub mod StepLaws
 pub mod StepSinceLaws
 pub mod StretchLaws
@@ -57,6 +62,7 @@ pub mod TimeLaws
 pub mod TrialLaws
 pub mod TrialStopLaws
 pub mod TurnLaws
+pub mod VerdictLaws
 pub mod WaitLaws
 pub mod WayLaws
 pub mod WindowLaws
