@@ -2,6 +2,7 @@ pub mod BoundLaws
 pub mod CellLaws
 pub mod CheckLaws
 pub mod ChoiceLaws
+pub mod ContLaws
 pub mod DescendLaws
 pub mod DrawLaws
 pub mod EntryLaws

@@ -22,7 +22,7 @@ use Rattle.improve.specs.Steps.{nearPlan}
 use Rattle.lk_scans.specs.Picked.{stepIn, contsIn, contIs, trialIn, shown, shownFrom, Fine, Fines, Falling, Placed}
 use Rattle.lk_scans.specs.declared.Pick.{Pick}
 use Rattle.lk_scans.specs.declared.Picks.{Picks}
-use Rattle.lk_scans.proofs.ContLaws.{rest, rest-all, rest-done, rest-stop, rest-skip, rest-bar, rest-may, first-free, not-first}
+use Rattle.laws.proofs.ContLaws.{rest, rest-all, rest-done, rest-stop, rest-skip, rest-bar, rest-may, first-free, not-first}
 use Rattle.lk_scans.proofs.ShownLaws.{shown-none, one-over, one-under}
 
 by : (b : Bool) (Q : Type 0) → (b ≡ true → Q) → (b ≡ false → Q) → Q

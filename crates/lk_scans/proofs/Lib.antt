@@ -1,3 +1,2 @@
-pub mod ContLaws
 pub mod LeftLaws
 pub mod ShownLaws

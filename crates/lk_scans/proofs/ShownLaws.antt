@@ -1,6 +1,7 @@
 -- 01, 8, "Breadth by level": the best continuations, kept in a struct whose partial gain is 0 where there is none.
 use Prim.Native.Nat.{ℕ, zero, suc, _+_, _≤_, _<_}
 use mathlib.Core.Path.{_≡_, refl, sym, ap, _∙_}
+use mathlib.Core.Logic.{_≢_}
 use mathlib.Core.List.{List, [], _∷_}
 use native.Mathlib.Omega.{arith}
 use borrow.Author.Tests.{lt-ltb, le-ltb}
@@ -10,7 +11,7 @@ use Rattle.rules.specs.Improve.{Trial}
 use Rattle.rules.specs.Step.{best, insert}
 use Rattle.rules.specs.Lk.{breadth}
 use Rattle.laws.proofs.ChoiceLaws.{by-gain}
-use Rattle.lk_scans.specs.Picked.{shown, shownFrom, trialIn, contIs, Fine, Fines, Falling, Placed}
+use Rattle.lk_scans.specs.Picked.{shown, shownFrom, trialIn, contIs, Fine, Fines, Falling, Placed, IsAt}
 use Rattle.lk_scans.specs.declared.Pick.{Pick}
 use Rattle.lk_scans.specs.declared.Picks.{Picks}
 
@@ -118,9 +119,48 @@ module _ (ps : Picks) (p : Pick) (h : 0 < p .partial) where
         fines = λ n g fs fp. fs;
       }
 
+-- the i-th of the struct
+module _ (ps : Picks) where
+  pub at-first : (i : ℕ) → i ≡ 0 → IsAt ps i (ps .a)
+  unfolding shownFrom
+  at-first zero e = record { is = refl; last = λ h. absurd (omega arith); fine = λ n g f. f .fine-a }
+  at-first (suc i) e = absurd (omega arith)
+
+  pub at-second : (i : ℕ) → i ≡ 1 → IsAt ps i (ps .b)
+  unfolding shownFrom
+  at-second zero e = absurd (omega arith)
+  at-second (suc zero) e = record { is = refl; last = λ h. absurd (omega arith); fine = λ n g f. f .fine-b }
+  at-second (suc (suc i)) e = absurd (omega arith)
+
+  pub at-third : (i : ℕ) → i ≢ 0 → i ≢ 1 → i < 3 → IsAt ps i (ps .c)
+  unfolding shownFrom
+  at-third zero m n h = absurd (m refl)
+  at-third (suc zero) m n h = absurd (n refl)
+  at-third (suc (suc zero)) m n h = record { is = refl; last = λ h. absurd (omega arith); fine = λ n g f. f .fine-c }
+  at-third (suc (suc (suc i))) m n h = absurd (omega arith)
+
+  pub at-none : (i : ℕ) → 3 ≤ i → IsAt ps i (record { partial = 0; t3 = ps .a .t3; t4 = ps .a .t4 })
+  unfolding shownFrom shown trialIn contIs
+  at-none zero h = absurd (omega arith)
+  at-none (suc zero) h = absurd (omega arith)
+  at-none (suc (suc zero)) h = absurd (omega arith)
+  at-none (suc (suc (suc i))) h = record { is = refl; last = λ h. refl; fine = λ n g f. record { low3 = f .fine-a .low3; low4 = f .fine-a .low4; small = omega arith } }
+
+-- none behind the last
+pub shown-last : (i : ℕ) (ps : Picks) → 3 ≤ i → shownFrom i ps ≡ []
+unfolding shownFrom
+shown-last zero ps h = absurd (omega arith)
+shown-last (suc zero) ps h = absurd (omega arith)
+shown-last (suc (suc zero)) ps h = absurd (omega arith)
+shown-last (suc (suc (suc i))) ps h = refl
+
 -- ---- the table, and 1 beyond it
 pub breadth-in : (level : ℕ) → level < 2 → getD (3 ∷ 1 ∷ []) level 0 ≡ breadth level
 unfolding breadth
 breadth-in zero h = refl
 breadth-in (suc zero) h = refl
 breadth-in (suc (suc level)) h = absurd (omega arith)
+
+pub breadth-first : breadth 0 ≡ 3
+unfolding breadth
+breadth-first = refl

@@ -80,3 +80,9 @@ pub record Placed (ps : Picks) (p : Pick) (r : Picks) : Type 0 where
   pub is : Falling ps → shownFrom 0 r ≡ take 3 (insert (trialIn p) (shownFrom 0 ps))
   pub falls : Falling ps → Falling r
   pub fines : (n : ℕ) (g : Time) → Fines n g ps → Fine n g (p .partial) (p .t3 .0) (p .t4 .0) → Fines n g r
+
+-- p is the i-th of ps; none from 3 on
+pub record IsAt (ps : Picks) (i : ℕ) (p : Pick) : Type 0 where
+  pub is : shownFrom i ps ≡ shown (trialIn p) (shownFrom (i + 1) ps)
+  pub last : 3 ≤ i → p .partial ≡ 0
+  pub fine : (n : ℕ) (g : Time) → Fines n g ps → Fine n g (p .partial) (p .t3 .0) (p .t4 .0)

@@ -9,7 +9,7 @@ ghost use Rattle.rules.specs.Step.{among, best};
 ghost use Rattle.rules.specs.Lk.{breadth};
 ghost use Rattle.scans.specs.Scans.{Ready};
 ghost use Rattle.lk_state.specs.Stacks.{legsIn};
-ghost use Rattle.lk_scans.specs.Picked.{contsIn, Picked, Firsts, Placed, IsPick};
+ghost use Rattle.lk_scans.specs.Picked.{contsIn, Picked, Firsts, Placed, IsPick, IsAt};
 use legs::Stop;
 use legs::dist;
 use lk_state::added_has;
@@ -79,6 +79,27 @@ fn place_pick(ps: Picks, p: Pick) -> Picks
     Picks { a: p, b: a, c: b }
 }
 
+// The i-th of the best three; none beyond the first level's breadth.
+pub fn pick_at(ps: Picks, i: usize) -> Pick
+    ensures { λ r. ⌜ IsAt ps i r ⌝ }
+{
+    let a = ps.a;
+    let b = ps.b;
+    let c = ps.c;
+    if lk_breadth(0) <= i {
+        let mut none = a;
+        none.partial = 0;
+        return none;
+    }
+    if i == 0 {
+        return a;
+    }
+    if i == 1 {
+        return b;
+    }
+    c
+}
+
 // Whether the leg t2-t3 was removed or the leg t3-t4 added.
 fn barred_by<'a>(
     added: &'a [u32; 98],
@@ -136,12 +157,12 @@ pub fn lk_first(
         let t3 = listed(near, k, n, t2, i);
         let d23 = dist(matrix, n, t2, t3);
         i = i + 1;
-        let over = g <= d23;
-        let barred = either(t3, t1, t2_next);
-        if over {
+        let t3_over = g <= d23;
+        let t3_barred = either(t3, t1, t2_next);
+        if t3_over {
             break;
         }
-        if barred {
+        if t3_barred {
             continue;
         }
         let t4 = behind(round, places, fwd, t3);

@@ -6,8 +6,8 @@ use mathlib.Core.Bool.{Bool, true, false, _&&_}
 use mathlib.Core.List.{List, [], _∷_, _++_}
 use native.Mathlib.Numerals.{add-one}
 use native.Mathlib.Omega.{arith}
-use borrow.Author.Tests.{lt-ltb, le-ltb, eq-eqb, eqb-true}
-use lib.Dec.{eqb}
+use borrow.Author.Tests.{eq-eqb, eqb-true}
+use lib.Dec.{eqb, ltb}
 use lib.ListN.{length, set}
 use lib.Seq.{getD-set-same, getD-set-other}
 use Rattle.rules.specs.Words.{Stop}
@@ -15,23 +15,22 @@ use Rattle.rules.specs.Lists.{at}
 use Rattle.rules.specs.Ring.{Leg, leg}
 use Rattle.rules.specs.Step.{among}
 use Rattle.rules.specs.Queue.{pushAll}
-use Rattle.laws.proofs.ChoiceLaws.{not-so, and-true}
+use Rattle.laws.proofs.ChoiceLaws.{either-way, not-so, and-true}
+use Rattle.ring.specs.Legs.{legWord}
 use Rattle.lk_state.specs.Stacks.{legIs, legsIn, stopsIn, Stepping, LegWord}
 
 -- ---- a leg as a word
-pub word-low : (a b : Stop) → a < b → b < 4096 → LegWord a b (a * 4096 + b)
-unfolding legIs leg
-word-low a b h hb =
-    let low : (a * 4096 + b) / 4096 ≡ a = omega arith in
-    let high : (a * 4096 + b) % 4096 ≡ b = omega arith in
-    record { is = rw (lt-ltb a b h) (λ i. record { low = low i; high = high i }); small = omega arith }
+leg-ends : (a b : Stop) → a < 4096 → b < 4096 → (leg a b .low < 4096) × (leg a b .high < 4096)
+unfolding leg
+leg-ends a b ha hb = either-way (λ (e : Leg). (e .low < 4096) × (e .high < 4096)) (ltb a b) (ha, hb) (hb, ha)
 
-pub word-high : (a b : Stop) → b ≤ a → a < 4096 → LegWord a b (b * 4096 + a)
-unfolding legIs leg
-word-high a b h ha =
-    let low : (b * 4096 + a) / 4096 ≡ b = omega arith in
-    let high : (b * 4096 + a) % 4096 ≡ a = omega arith in
-    record { is = rw (le-ltb a b h) (λ i. record { low = low i; high = high i }); small = omega arith }
+pub word-leg : (a b : Stop) (r : ℕ) → a < 4096 → b < 4096 → r ≡ legWord (leg a b) → LegWord a b r
+unfolding legIs legWord
+word-leg a b r ha hb e =
+    let h = leg-ends a b ha hb in
+    let low : r / 4096 ≡ leg a b .low = omega (arith, h .0, h .1) in
+    let high : r % 4096 ≡ leg a b .high = omega (arith, h .0, h .1) in
+    record { is = λ i. record { low = low i; high = high i }; small = omega (arith, h .0, h .1) }
 
 -- ---- a leg among the words
 -- equal legs are equal words

@@ -10,6 +10,7 @@ ghost use Rattle.lk_state.specs.States.{Begun};
 use improve::push_two;
 use legs::Stop;
 use queue::Line;
+use ring::stops::edge;
 
 // Three stacks with their counts, and the first t2. A step word is t3 * 4096 + t4, a leg word low * 4096 + high.
 pub struct LkState {
@@ -28,11 +29,7 @@ pub fn leg_word(a: Stop, b: Stop) -> u32
     requires { ⌜ b .0 < 4096 ⌝ }
     ensures { λ r. ⌜ LegWord (a .0) (b .0) r ⌝ }
 {
-    if a.0 < b.0 {
-        a.0 * 4096 + b.0
-    } else {
-        b.0 * 4096 + a.0
-    }
+    edge(a, b)
 }
 
 // A leg is among the first `len` added.

@@ -1,34 +1,18 @@
-use Rattle.lk_state.proofs.StackLaws.{word-low, word-high}
+use Rattle.lk_state.proofs.StackLaws.{word-leg}
 use borrow.Author.Needs.{needs}
 use Rattle.lk_state.proofs.leg_word.Statement.{statement}
 use Rattle.lk_state.proofs.leg_word.Tie as tie
 use Rattle.lk_state.proofs.leg_word.Reads as reads
 use Rattle.lk_state.proofs.leg_word.Lts as lts
+use Rattle.ring.proofs.stops.edge.Reads as edge-reads
 
--- src/lib.rt:32:9
-mul-result : tie.Need-mul-result
-mul-result c = search needs
+-- src/lib.rt:32:5
+edge-requires : tie.Need-edge-requires
+edge-requires c κs = ((c .pre) .0, (c .pre) .1)
 
--- src/lib.rt:32:9
-add-result : tie.Need-add-result
-add-result c = search needs
-
--- src/lib.rt:34:9
-mul-result-2 : tie.Need-mul-result-2
-mul-result-2 c = search needs
-
--- src/lib.rt:34:9
-add-result-2 : tie.Need-add-result-2
-add-result-2 c = search needs
-
--- src/lib.rt:26:1
+-- src/lib.rt:27:1
 returns : tie.Need-returns
-returns c = word-low ((c .before .before .before .before .before .args) .a .0) ((c .before .before .before .before .before .args) .b .0) ((c .before .before .if1) .taken) ((c .before .before .before .before .before .pre) .1)
-
--- src/lib.rt:26:1
-returns-2 : tie.Need-returns-2
-returns-2 c = word-high ((c .before .before .before .before .before .args) .a .0) ((c .before .before .before .before .before .args) .b .0) ((c .before .before .if1) .left) ((c .before .before .before .before .before .pre) .0)
+returns c = word-leg ((c .before .args) .a .0) ((c .before .args) .b .0) _ ((c .before .pre) .0) ((c .before .pre) .1) ((c .edge) .ensures)
 
 pub leg-word-spec : {M : Type 1} → statement M
-leg-word-spec =
-    tie.close (tie.spec mul-result add-result mul-result-2 add-result-2 returns returns-2)
+leg-word-spec = tie.close (tie.spec edge-requires returns)

@@ -17,8 +17,7 @@ use Rattle.rules.specs.Plan.{Plan, legOf, nearOf}
 use Rattle.rules.specs.Improve.{Trial, free3}
 use Rattle.rules.specs.Step.{Step, among}
 use Rattle.rules.specs.Lk.{contOf, mayFlip, conts}
 use Rattle.laws.proofs.ChoiceLaws.{either-if, not-so, and-true, nor-true, true-false}
-use Rattle.lk_scans.specs.Picked.{contIs}
 
 -- ---- along a list
 module _ (p : Plan) (fwd : Bool) (s : Step) (t1 t2 : Stop) (g : Time) where
