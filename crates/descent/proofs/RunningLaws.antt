@@ -16,7 +16,7 @@ use Rattle.rules.specs.Plan.{Plan, legIn, legOf}
 use Rattle.rules.specs.State.{State}
 use Rattle.rules.specs.Descend.{Manner, Ran, short, journalled, leave, descending, descend, stepFrom}
 use Rattle.rules.specs.Contracts.{Tied, Square, Listed}
-use Rattle.laws.proofs.ChoiceLaws.{either-way, true-false}
+use Rattle.laws.proofs.ChoiceLaws.{true-false}
 use Rattle.laws.proofs.DescendLaws.{step-time}
 use Rattle.laws.proofs.GainLaws.{Fit}
 use Rattle.laws.proofs.JournalWordLaws.{good-fewer, good-room}
@@ -207,18 +207,3 @@ descended {round = round} {journal′ = journal′} {held′ = held′} {time = 
       none = e .none;
       waits = w;
     }
-
--- a descent never leaves a later time
-later : (p : Plan) (kind : ℕ) (m : Manner) (left : ℕ) (q : List Stop) (t : Track) (time : Time) → descending p kind m left q t time .state .time ≤ time
-unfolding descending leave
-later p kind m zero [] t time = omega arith
-later p kind m (suc left) [] t time = omega arith
-later p kind m zero (v ∷ vs) t time = omega arith
-later p kind m (suc left) (v ∷ vs) t time =
-    let f = stepFrom p kind v (journalled m t) in
-    let k = later p kind m left (pushAll vs (f .touched)) (f .track) (time - f .gain) in
-    either-way (λ (g : Ran). g .state .time ≤ time) (short m t) (omega arith) (omega arith)
-
-pub never-later : (p : Plan) (kind : ℕ) (m : Manner) (budget : ℕ) (s : State) → descend p kind m budget s .state .time ≤ s .time
-unfolding descend
-never-later p kind m budget s = later p kind m budget (s .queue) (s .track) (s .time)

@@ -1,5 +1,5 @@
 -- What memory is left with: a refusal's, a loaded round's, a commit's.
-use Prim.Native.Nat.{ℕ, zero, suc, _-_, _*_, _≤_, _<_}
+use Prim.Native.Nat.{ℕ, _-_, _*_, _≤_, _<_}
 use mathlib.Core.Path.{_≡_, refl, sym, ap, subst, _∙_}
 use mathlib.Core.Logic.{_≢_}
 use mathlib.Core.Bool.{true}
@@ -22,18 +22,12 @@ use Rattle.laws.proofs.TiedLaws.{tied-places}
 use Rattle.laws.proofs.WaitLaws.{waiting-length}
 use Rattle.journal.specs.Journalled.{Grew}
 use Rattle.journal.proofs.GrewLaws.{grew-left}
-use Rattle.promises.specs.Promises.{given, Stands}
+use Rattle.promises.specs.Promises.{Stands}
 use Rattle.refusals.specs.Lending.{carrying}
 use Rattle.refusals.specs.Passed.{CallPassed}
 use Rattle.loads.specs.Lying.{Lies}
 
 -- ---- refused, or done
--- a refusal gives what came
-pub given-refused : (number done came : ℕ) → number ≢ 0 → given number done came ≡ came
-unfolding given
-given-refused zero done came h = absurd (h refl)
-given-refused (suc k) done came h = refl
-
 pub stands-refused : (number : ℕ) (done : Done) (l : Lent) (c : Carried) → number ≢ 0 → Stands number done l c l c
 stands-refused number done l c h = record { lent-refused = λ k. refl; state-refused = λ k. refl; left = λ e. absurd (h e) }
 

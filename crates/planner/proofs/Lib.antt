@@ -1,4 +1,4 @@
-pub mod DescendLaws
 pub mod LeaveLaws
 pub mod KickLaws
 pub mod PromiseLaws
+pub mod DescentLaws

@@ -20,8 +20,14 @@ use Rattle.kicks.specs.Kicking.{Kicks}
 use Rattle.refusals.specs.Lending.{carrying}
 use Rattle.refusals.proofs.PassLaws.{call-passed, kick-passed, load-passed}
 use Rattle.loads.specs.Lying.{Lies}
-use Rattle.planner.proofs.LeaveLaws.{given-refused, stands-refused, stands-done, lies-leaves, commit-leaves}
+use Rattle.planner.proofs.LeaveLaws.{stands-refused, stands-done, lies-leaves, commit-leaves}
 use Rattle.planner.proofs.KickLaws.{kick-leaves, kick-draws, kick-added, kick-removed}
+
+-- a refusal gives what came
+pub given-refused : (number done came : ℕ) → number ≢ 0 → given number done came ≡ came
+unfolding given
+given-refused zero done came h = absurd (h refl)
+given-refused (suc k) done came h = refl
 
 -- ---- load
 module _ (l : Lent) (c : Carried) (start : Round) (number : ℕ) (is : number ≡ loadNumber l start) where

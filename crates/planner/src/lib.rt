@@ -31,15 +31,6 @@ pub struct Kicked {
     pub change: i32,
 }
 
-// A descent's answer: its number, the state, what the time fell by, the stops taken, and how it ended.
-pub struct Descended {
-    pub number: u32,
-    pub state: State,
-    pub gain: u32,
-    pub units: u32,
-    pub ended: u32,
-}
-
 // The state that load and undo leave: nobody waits, and the queue begins at 0.
 fn empty_queue(held: usize, time: u32) -> State
     ensures { λ r. ⌜ (r .head ≡ 0) × ((r .count ≡ 0) × ((r .held ≡ held) × (r .time ≡ time))) ⌝ }
@@ -298,7 +289,16 @@ pub fn kick(
     }
 }
 
-// Improves the round until nobody waits, no unit is left or, kept, the journal is short of room for a step; then nobody waits.
+// A descent's answer: its number, the state, the gain, the units taken, and how it ended.
+pub struct Descended {
+    pub number: u32,
+    pub state: State,
+    pub gain: u32,
+    pub units: u32,
+    pub ended: u32,
+}
+
+// Takes stops from the queue and makes the step from each, while some wait, a unit is left and a kept descent has room.
 pub fn descend(
     n: usize,
     k: usize,
@@ -372,6 +372,8 @@ pub fn descend(
         state.time,
     );
     let l = d.line;
+    let gain = state.time - d.time;
+    let units = budget - d.left;
     Descended {
         number: 0,
         state: State {
@@ -380,8 +382,8 @@ pub fn descend(
             held: d.held,
             time: d.time,
         },
-        gain: state.time - d.time,
-        units: budget - d.left,
+        gain: gain,
+        units: units,
         ended: d.ended,
     }
 }

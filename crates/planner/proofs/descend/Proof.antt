@@ -1,12 +1,12 @@
-use Prim.Native.Nat.{_-_}
-use mathlib.Core.Path.{_≡_, sym, ap, _∙_}
+use mathlib.Core.Path.{sym, ap, _∙_}
 use mathlib.Core.Bool.{Bool}
+use native.Mathlib.Omega.{arith}
+use borrow.Author.Needs.{needs}
 use Rattle.rules.specs.Memory.{Lent, Carried}
-use Rattle.rules.specs.Numbers.{verdict, callChecks, goodStep}
+use Rattle.rules.specs.Numbers.{verdict, callChecks}
 use Rattle.refusals.specs.Lending.{lending, carrying}
 use Rattle.refusals.proofs.PassLaws.{call-passed}
-use Rattle.planner.proofs.DescendLaws.{descend-handed, descend-journal, descend-room, descend-fits, descend-time, step-known, descend-falls, descend-spends, descend-refuses, descend-does}
-use borrow.Author.Needs.{needs}
+use Rattle.planner.proofs.DescentLaws.{step-good, descent-handed, descent-journal, descent-room, descent-fits, descent-time, time-falls, units-left, descend-refuses, descend-does}
 use Rattle.planner.proofs.descend.Statement.{statement}
 use Rattle.planner.proofs.descend.Tie as tie
 
@@ -35,16 +35,46 @@ same-length-6 : tie.Need-same-length-6
 same-length-6 c = search needs
 
 returns : tie.Need-returns
-returns c = let a = (c .before .before .before .before .before .before .before .before .before .before .before .before .before .before .before .before .before .before .args) in let l : Lent = lending (a .n) (a .k) (a .ka) (a .matrix .now) (a .near .now) (a .alpha .now) (a .round .now) (a .places .now) (a .queue .now) (a .flags .now) (a .scratch .now) (a .journal .now) in let s : Carried = carrying (a .state .head) (a .state .count) (a .state .held) (a .state .time) in let is : ((c .before .call-number)) .result ≡ verdict (callChecks l s (goodStep (a .ka) (a .step))) = ((c .before .call-number)) .ensures ∙ ap (λ (b : Bool). verdict (callChecks l s b)) (((c .before .before .before .before .before .before .before .before .step-good)) .ensures) in descend-refuses l s (a .keeps) (a .step) (a .budget) (((c .before .call-number)) .result) is (((c .if1)) .taken)
+returns c =
+    let a = c .before .before .before .before .before .before .before .before .before .before .before .before .before .before .before .before .before .before .args in
+    let step-good = c .before .before .before .before .before .before .before .before .step-good in
+    let call-number = c .before .call-number in
+    let l : Lent = (lending (a .n) (a .k) (a .ka) (a .matrix .now) (a .near .now) (a .alpha .now) (a .round .now) (a .places .now) (a .queue .now) (a .flags .now) (a .scratch .now) (a .journal .now)) in
+    let s : Carried = (carrying (a .state .head) (a .state .count) (a .state .held) (a .state .time)) in descend-refuses l s (a .keeps) (a .step) (a .budget) (call-number .result) (call-number .ensures ∙ ap (λ (t : Bool). verdict (callChecks l s t)) (step-good .ensures)) ((c .if1) .taken)
 
 descend-requires : tie.Need-descend-requires
-descend-requires c κs = let a = (c .before .before .before .before .before .before .before .before .before .before .before .before .before .before .before .before .before .before .before .before .before .before .before .before .args) in let l : Lent = lending (a .n) (a .k) (a .ka) (a .matrix .now) (a .near .now) (a .alpha .now) (a .round .now) (a .places .now) (a .queue .now) (a .flags .now) (a .scratch .now) (a .journal .now) in let s : Carried = carrying (a .state .head) (a .state .count) (a .state .held) (a .state .time) in let is : ((c .before .before .before .before .before .before .before .call-number)) .result ≡ verdict (callChecks l s (goodStep (a .ka) (a .step))) = ((c .before .before .before .before .before .before .before .call-number)) .ensures ∙ ap (λ (b : Bool). verdict (callChecks l s b)) (((c .before .before .before .before .before .before .before .before .before .before .before .before .before .before .step-good)) .ensures) in let p = call-passed l s (goodStep (a .ka) (a .step)) (sym is ∙ ((c .before .before .before .before .before .before .if1)) .left) in let told = goodStep (a .ka) (a .step) in (descend-handed l s (a .keeps) (a .step) (a .budget) told p, (descend-journal l s (a .keeps) (a .step) (a .budget) told p, (descend-room l s (a .keeps) (a .step) (a .budget) told p, (step-known (a .ka) (a .step) (p .lent .asked), (descend-fits l s (a .keeps) (a .step) (a .budget) told p, descend-time l s (a .keeps) (a .step) (a .budget) told p)))))
+descend-requires c κs =
+    let a = c .before .before .before .before .before .before .before .before .before .before .before .before .before .before .before .before .before .before .before .before .before .before .before .before .args in
+    let call-number = c .before .before .before .before .before .before .before .call-number in
+    let l : Lent = (lending (a .n) (a .k) (a .ka) (a .matrix .now) (a .near .now) (a .alpha .now) (a .round .now) (a .places .now) (a .queue .now) (a .flags .now) (a .scratch .now) (a .journal .now)) in
+    let s : Carried = (carrying (a .state .head) (a .state .count) (a .state .held) (a .state .time)) in
+    let p = call-passed l s ((c .before .before .before .before .before .before .before .before .before .before .before .before .before .before .step-good) .result) (sym (call-number .ensures) ∙ (c .before .before .before .before .before .before .if1) .left) in (descent-handed l s ((c .before .before .before .before .before .before .before .before .before .before .before .before .before .before .step-good) .result) p, (descent-journal l s ((c .before .before .before .before .before .before .before .before .before .before .before .before .before .before .step-good) .result) p, (descent-room l s ((c .before .before .before .before .before .before .before .before .before .before .before .before .before .before .step-good) .result) p, (step-good (a .ka) (a .step) (sym ((c .before .before .before .before .before .before .before .before .before .before .before .before .before .before .step-good) .ensures) ∙ p .lent .asked), (descent-fits l s ((c .before .before .before .before .before .before .before .before .before .before .before .before .before .before .step-good) .result) p, descent-time l s ((c .before .before .before .before .before .before .before .before .before .before .before .before .before .before .step-good) .result) p)))))
 
-sub-t48 : tie.Need-sub-t48
-sub-t48 c = let a = (c .before .before .before .before .before .before .before .before .before .before .before .before .before .before .before .before .before .before .before .before .before .before .before .before .before .before .before .before .before .before .before .before .before .before .before .before .before .before .before .before .args) in let l : Lent = lending (a .n) (a .k) (a .ka) (a .matrix .now) (a .near .now) (a .alpha .now) (a .round .now) (a .places .now) (a .queue .now) (a .flags .now) (a .scratch .now) (a .journal .now) in let s : Carried = carrying (a .state .head) (a .state .count) (a .state .held) (a .state .time) in let is : ((c .before .before .before .before .before .before .before .before .before .before .before .before .before .before .before .before .before .before .before .before .before .before .before .call-number)) .result ≡ verdict (callChecks l s (goodStep (a .ka) (a .step))) = ((c .before .before .before .before .before .before .before .before .before .before .before .before .before .before .before .before .before .before .before .before .before .before .before .call-number)) .ensures ∙ ap (λ (b : Bool). verdict (callChecks l s b)) (((c .before .before .before .before .before .before .before .before .before .before .before .before .before .before .before .before .before .before .before .before .before .before .before .before .before .before .before .before .before .before .step-good)) .ensures) in let p = call-passed l s (goodStep (a .ka) (a .step)) (sym is ∙ ((c .before .before .before .before .before .before .before .before .before .before .before .before .before .before .before .before .before .before .before .before .before .before .if1)) .left) in let d = (c .before .before .before .before .before .before .before .before .before .before .before .before .before .before .before .descend) in let after : Lent = lending (a .n) (a .k) (a .ka) (a .matrix .now) (a .near .now) (a .alpha .now) (d .last .1 .1 .1 .1 .1 .0) (d .last .1 .1 .1 .1 .1 .1 .0) (d .last .1 .1 .1 .1 .1 .1 .1 .1 .0) (d .last .1 .1 .1 .1 .1 .1 .1 .1 .1 .0) (d .last .1 .1 .1 .1 .1 .1 .1 .0) (d .last .1 .1 .1 .1 .1 .1 .1 .1 .1 .1 .0) in let new : Carried = carrying (d .result .line .head) (d .result .line .count) (d .result .held) (d .result .time) in descend-falls l s (a .keeps) (a .step) (a .budget) (goodStep (a .ka) (a .step)) p after new (d .result .left) (d .result .ended) (((c .before .before .before .before .before .before .before .before .queue)) .given) (d .ensures)
+sub-gain : tie.Need-sub-gain
+sub-gain c =
+    let a = c .before .before .before .before .before .before .before .before .before .before .before .before .before .before .before .before .before .before .before .before .before .before .before .before .before .before .before .before .before .before .before .before .before .before .before .before .before .before .before .before .args in
+    let step-good = c .before .before .before .before .before .before .before .before .before .before .before .before .before .before .before .before .before .before .before .before .before .before .before .before .before .before .before .before .before .before .step-good in
+    let call-number = c .before .before .before .before .before .before .before .before .before .before .before .before .before .before .before .before .before .before .before .before .before .before .before .call-number in
+    let test1 = c .before .before .before .before .before .before .before .before .before .before .before .before .before .before .before .before .before .before .before .before .before .before .if1 in
+    let descend = c .before .before .before .before .before .before .before .before .before .before .before .before .before .before .before .descend in
+    let l : Lent = (lending (a .n) (a .k) (a .ka) (a .matrix .now) (a .near .now) (a .alpha .now) (a .round .now) (a .places .now) (a .queue .now) (a .flags .now) (a .scratch .now) (a .journal .now)) in
+    let s : Carried = (carrying (a .state .head) (a .state .count) (a .state .held) (a .state .time)) in
+    let after : Lent = (lending (a .n) (a .k) (a .ka) (a .matrix .now) (a .near .now) (a .alpha .now) (descend .last .1 .1 .1 .1 .1 .0) (descend .last .1 .1 .1 .1 .1 .1 .0) (descend .last .1 .1 .1 .1 .1 .1 .1 .1 .0) (descend .last .1 .1 .1 .1 .1 .1 .1 .1 .1 .0) (descend .last .1 .1 .1 .1 .1 .1 .1 .0) (descend .last .1 .1 .1 .1 .1 .1 .1 .1 .1 .1 .0)) in
+    let new : Carried = (carrying (descend .result .line .head) (descend .result .line .count) (descend .result .held) (descend .result .time)) in
+    let p = call-passed l s (step-good .result) (sym (call-number .ensures) ∙ test1 .left) in omega (arith, time-falls l after s new (step-good .result) p (a .keeps) (a .step) (a .budget) (descend .result .left) (descend .result .ended) (descend .kept .1 .1 .1 .1 .1 .1 .1 .1 .0) (descend .ensures))
 
-sub-t49 : tie.Need-sub-t49
-sub-t49 c = let a = (c .before .before .before .before .before .before .before .before .before .before .before .before .before .before .before .before .before .before .before .before .before .before .before .before .before .before .before .before .before .before .before .before .before .before .before .before .before .before .before .before .before .args) in let l : Lent = lending (a .n) (a .k) (a .ka) (a .matrix .now) (a .near .now) (a .alpha .now) (a .round .now) (a .places .now) (a .queue .now) (a .flags .now) (a .scratch .now) (a .journal .now) in let s : Carried = carrying (a .state .head) (a .state .count) (a .state .held) (a .state .time) in let is : ((c .before .before .before .before .before .before .before .before .before .before .before .before .before .before .before .before .before .before .before .before .before .before .before .before .call-number)) .result ≡ verdict (callChecks l s (goodStep (a .ka) (a .step))) = ((c .before .before .before .before .before .before .before .before .before .before .before .before .before .before .before .before .before .before .before .before .before .before .before .before .call-number)) .ensures ∙ ap (λ (b : Bool). verdict (callChecks l s b)) (((c .before .before .before .before .before .before .before .before .before .before .before .before .before .before .before .before .before .before .before .before .before .before .before .before .before .before .before .before .before .before .before .step-good)) .ensures) in let p = call-passed l s (goodStep (a .ka) (a .step)) (sym is ∙ ((c .before .before .before .before .before .before .before .before .before .before .before .before .before .before .before .before .before .before .before .before .before .before .before .if1)) .left) in let d = (c .before .before .before .before .before .before .before .before .before .before .before .before .before .before .before .before .descend) in let after : Lent = lending (a .n) (a .k) (a .ka) (a .matrix .now) (a .near .now) (a .alpha .now) (d .last .1 .1 .1 .1 .1 .0) (d .last .1 .1 .1 .1 .1 .1 .0) (d .last .1 .1 .1 .1 .1 .1 .1 .1 .0) (d .last .1 .1 .1 .1 .1 .1 .1 .1 .1 .0) (d .last .1 .1 .1 .1 .1 .1 .1 .0) (d .last .1 .1 .1 .1 .1 .1 .1 .1 .1 .1 .0) in let new : Carried = carrying (d .result .line .head) (d .result .line .count) (d .result .held) (d .result .time) in descend-spends l s (a .keeps) (a .step) (a .budget) (goodStep (a .ka) (a .step)) p after new (d .result .left) (d .result .ended) (((c .before .before .before .before .before .before .before .before .before .queue)) .given) (d .ensures)
+sub-units : tie.Need-sub-units
+sub-units c =
+    let a = c .before .before .before .before .before .before .before .before .before .before .before .before .before .before .before .before .before .before .before .before .before .before .before .before .before .before .before .before .before .before .before .before .before .before .before .before .before .before .before .before .before .args in
+    let step-good = c .before .before .before .before .before .before .before .before .before .before .before .before .before .before .before .before .before .before .before .before .before .before .before .before .before .before .before .before .before .before .before .step-good in
+    let call-number = c .before .before .before .before .before .before .before .before .before .before .before .before .before .before .before .before .before .before .before .before .before .before .before .before .call-number in
+    let test1 = c .before .before .before .before .before .before .before .before .before .before .before .before .before .before .before .before .before .before .before .before .before .before .before .if1 in
+    let descend = c .before .before .before .before .before .before .before .before .before .before .before .before .before .before .before .before .descend in
+    let l : Lent = (lending (a .n) (a .k) (a .ka) (a .matrix .now) (a .near .now) (a .alpha .now) (a .round .now) (a .places .now) (a .queue .now) (a .flags .now) (a .scratch .now) (a .journal .now)) in
+    let s : Carried = (carrying (a .state .head) (a .state .count) (a .state .held) (a .state .time)) in
+    let after : Lent = (lending (a .n) (a .k) (a .ka) (a .matrix .now) (a .near .now) (a .alpha .now) (descend .last .1 .1 .1 .1 .1 .0) (descend .last .1 .1 .1 .1 .1 .1 .0) (descend .last .1 .1 .1 .1 .1 .1 .1 .1 .0) (descend .last .1 .1 .1 .1 .1 .1 .1 .1 .1 .0) (descend .last .1 .1 .1 .1 .1 .1 .1 .0) (descend .last .1 .1 .1 .1 .1 .1 .1 .1 .1 .1 .0)) in
+    let new : Carried = (carrying (descend .result .line .head) (descend .result .line .count) (descend .result .held) (descend .result .time)) in
+    let p = call-passed l s (step-good .result) (sym (call-number .ensures) ∙ test1 .left) in omega (arith, units-left l after s new (step-good .result) p (a .keeps) (a .step) (a .budget) (descend .result .left) (descend .result .ended) (descend .kept .1 .1 .1 .1 .1 .1 .1 .1 .0) (descend .ensures))
 
 same-length-7 : tie.Need-same-length-7
 same-length-7 c = search needs
@@ -65,7 +95,16 @@ same-length-12 : tie.Need-same-length-12
 same-length-12 c = search needs
 
 returns-2 : tie.Need-returns-2
-returns-2 c = let a = (c .before .before .before .before .before .before .before .before .before .before .before .before .before .before .before .before .before .before .before .before .before .before .before .before .before .before .before .before .before .before .before .before .before .before .before .before .before .before .before .before .before .args) in let l : Lent = lending (a .n) (a .k) (a .ka) (a .matrix .now) (a .near .now) (a .alpha .now) (a .round .now) (a .places .now) (a .queue .now) (a .flags .now) (a .scratch .now) (a .journal .now) in let s : Carried = carrying (a .state .head) (a .state .count) (a .state .held) (a .state .time) in let is : ((c .before .before .before .before .before .before .before .before .before .before .before .before .before .before .before .before .before .before .before .before .before .before .before .before .call-number)) .result ≡ verdict (callChecks l s (goodStep (a .ka) (a .step))) = ((c .before .before .before .before .before .before .before .before .before .before .before .before .before .before .before .before .before .before .before .before .before .before .before .before .call-number)) .ensures ∙ ap (λ (b : Bool). verdict (callChecks l s b)) (((c .before .before .before .before .before .before .before .before .before .before .before .before .before .before .before .before .before .before .before .before .before .before .before .before .before .before .before .before .before .before .before .step-good)) .ensures) in let d = (c .before .before .before .before .before .before .before .before .before .before .before .before .before .before .before .before .descend) in let after : Lent = lending (a .n) (a .k) (a .ka) (a .matrix .now) (a .near .now) (a .alpha .now) (d .last .1 .1 .1 .1 .1 .0) (d .last .1 .1 .1 .1 .1 .1 .0) (d .last .1 .1 .1 .1 .1 .1 .1 .1 .0) (d .last .1 .1 .1 .1 .1 .1 .1 .1 .1 .0) (d .last .1 .1 .1 .1 .1 .1 .1 .0) (d .last .1 .1 .1 .1 .1 .1 .1 .1 .1 .1 .0) in let new : Carried = carrying (d .result .line .head) (d .result .line .count) (d .result .held) (d .result .time) in descend-does l s (a .keeps) (a .step) (a .budget) (((c .before .before .before .before .before .before .before .before .before .before .before .before .before .before .before .before .before .before .before .before .before .before .before .before .call-number)) .result) is (((c .before .before .before .before .before .before .before .before .before .before .before .before .before .before .before .before .before .before .before .before .before .before .before .if1)) .left) after new (d .result .left) (d .result .ended) (((c .before .before .before .before .before .before .before .before .before .queue)) .given) (d .ensures)
+returns-2 c =
+    let a = c .before .before .before .before .before .before .before .before .before .before .before .before .before .before .before .before .before .before .before .before .before .before .before .before .before .before .before .before .before .before .before .before .before .before .before .before .before .before .before .before .before .args in
+    let step-good = c .before .before .before .before .before .before .before .before .before .before .before .before .before .before .before .before .before .before .before .before .before .before .before .before .before .before .before .before .before .before .before .step-good in
+    let call-number = c .before .before .before .before .before .before .before .before .before .before .before .before .before .before .before .before .before .before .before .before .before .before .before .before .call-number in
+    let test1 = c .before .before .before .before .before .before .before .before .before .before .before .before .before .before .before .before .before .before .before .before .before .before .before .if1 in
+    let descend = c .before .before .before .before .before .before .before .before .before .before .before .before .before .before .before .before .descend in
+    let l : Lent = (lending (a .n) (a .k) (a .ka) (a .matrix .now) (a .near .now) (a .alpha .now) (a .round .now) (a .places .now) (a .queue .now) (a .flags .now) (a .scratch .now) (a .journal .now)) in
+    let s : Carried = (carrying (a .state .head) (a .state .count) (a .state .held) (a .state .time)) in
+    let after : Lent = (lending (a .n) (a .k) (a .ka) (a .matrix .now) (a .near .now) (a .alpha .now) (descend .last .1 .1 .1 .1 .1 .0) (descend .last .1 .1 .1 .1 .1 .1 .0) (descend .last .1 .1 .1 .1 .1 .1 .1 .1 .0) (descend .last .1 .1 .1 .1 .1 .1 .1 .1 .1 .0) (descend .last .1 .1 .1 .1 .1 .1 .1 .0) (descend .last .1 .1 .1 .1 .1 .1 .1 .1 .1 .1 .0)) in
+    let new : Carried = (carrying (descend .result .line .head) (descend .result .line .count) (descend .result .held) (descend .result .time)) in descend-does l s (a .keeps) (a .step) (a .budget) (call-number .result) (call-number .ensures ∙ ap (λ (t : Bool). verdict (callChecks l s t)) (step-good .ensures)) (test1 .left) after new (descend .result .left) (descend .result .ended) (descend .kept .1 .1 .1 .1 .1 .1 .1 .1 .0) (descend .ensures)
 
 pub descend-spec : {M : Type 1} → statement M
 descend-spec =
@@ -81,8 +120,8 @@ descend-spec =
     same-length-6
     returns
     descend-requires
-    sub-t48
-    sub-t49
+    sub-gain
+    sub-units
     same-length-7
     same-length-8
     same-length-9
