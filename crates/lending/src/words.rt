@@ -51,3 +51,8 @@ pub fn long(bytes: &[u8], i: usize) -> u64
     let high = word(bytes, i + 4);
     join32(low, high)
 }
+
+// The byte at i, as a flag.
+pub fn octet(bytes: &[u8], i: usize) -> u8 {
+    byte(bytes, i) as u8
+}
