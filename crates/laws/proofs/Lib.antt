@@ -1,3 +1,4 @@
+pub mod BitLaws
 pub mod BoundLaws
 pub mod CellLaws
 pub mod CheckLaws
@@ -22,6 +23,7 @@ pub mod LeftLaws
 pub mod Lk3Laws
 pub mod LkLaws
 pub mod LoneLaws
+pub mod MatrixLaws
 pub mod MoveWayLaws
 pub mod NearestLaws
 pub mod OnwardLaws
@@ -56,6 +58,7 @@ pub mod TiedLaws
 pub mod TimeLaws
 pub mod TrialLaws
 pub mod TrialStopLaws
+pub mod TriangleLaws
 pub mod TurnLaws
 pub mod WaitLaws
 pub mod WayLaws
