@@ -12,8 +12,8 @@ use crate::sizes::head_number;
 
 // A product that is small.
 pub fn times(a: usize, b: usize) -> usize
-    requires { ⌜ (a ≤ 128) × (b ≤ 128) ⌝ }
-    ensures { λ r. ⌜ (r ≡ a * b) × (r ≤ 16384) ⌝ }
+    requires { ⌜ (a ≤ 128) × (b ≤ 256) ⌝ }
+    ensures { λ r. ⌜ (r ≡ a * b) × (r ≤ 32768) ⌝ }
 {
     a * b
 }
