@@ -12,7 +12,7 @@ use Rattle.rules.specs.Sheets.{answerBytes}
 use Rattle.laws.proofs.BitLaws.{length-bits, bits-join, bytesOf-append, length-bytesOf}
 use Rattle.bits.specs.Write.{Wrote}
 use Rattle.bits.proofs.WriteLaws.{wrote-next}
-use Rattle.answers.specs.Answers.{Answers}
+use Rattle.answers.specs.Answers.{Written}
 
 module _ (ended time units kicks : ℕ) (round : List ℕ) (small : ended < 4) (n : length round ≤ 4096) where
   abbrev whole : ℕ → Answer
@@ -43,7 +43,7 @@ module _ (ended time units kicks : ℕ) (round : List ℕ) (small : ended < 4) (
   four v = length-bytesOf (bits 32 v) ∙ ap (λ (z : ℕ). (z + 7) / 8) (length-bits 32 v)
 
   pub answer-written : (l a b c d r : List ℕ) → 16 ≤ length l → Wrote l 0 (bytesOf (bits 32 word)) a → Wrote a 4 (bytesOf (bits 32 time)) b → Wrote b 8 (bytesOf (bits 32 units)) c
-      → Wrote c 12 (bytesOf (bits 32 kicks)) d → Wrote d 16 (bytesOf (each (bits 12) round)) r → Answers round time units kicks ended l r
+      → Wrote c 12 (bytesOf (bits 32 kicks)) d → Wrote d 16 (bytesOf (each (bits 12) round)) r → Written round time units kicks ended l r
   answer-written l a b c d r h wa wb wc wd wr =
       let la : length (bytesOf (bits 32 word)) ≡ 4 = four word in
       let lb : length (bytesOf (bits 32 word) ++ bytesOf (bits 32 time)) ≡ 8 = length-append (bytesOf (bits 32 word)) (bytesOf (bits 32 time)) ∙ omega (arith, la, four time) in

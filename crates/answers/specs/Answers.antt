@@ -13,7 +13,7 @@ pub record Small (l : Round) : Type 0 where
   pub stop : (i : ℕ) → at l i < 4096
 
 -- lent bytes l are left as r: the answer's bytes, and "Bytes beyond it stay". The draw state that an answer ends with is not written
-pub record Answers (round : Round) (time : Time) (units kicks ended : ℕ) (l r : List ℕ) : Type 0 where
+pub record Written (round : Round) (time : Time) (units kicks ended : ℕ) (l r : List ℕ) : Type 0 where
   pub is :
       (draw : ℕ) →
       let bytes = answerBytes (record { round = round; time = time; units = units; kicks = kicks; ended = ended; draw = draw }) in

@@ -4,7 +4,7 @@ ghost use lib.ListN.{length};
 ghost use Rattle.rules.specs.Lists.{each};
 ghost use Rattle.rules.specs.Bits.{bits, bytesOf};
 ghost use Rattle.bits.specs.Write.{Wrote};
-ghost use Rattle.answers.specs.Answers.{Small, Answers};
+ghost use Rattle.answers.specs.Answers.{Small, Written};
 use bits::write::put_last;
 use bits::write::put_pair;
 use bits::write::put32;
@@ -30,7 +30,7 @@ pub fn put_round(a: &mut [u8], round: &[u32])
 // "version 4, ended 2, n 13, spare 13; time 32; units 32; kicks 32; round, 12 each; zero bits. Bytes beyond it stay."
 pub fn write_answer(a: &mut [u8], ended: u32, time: u32, units: u32, kicks: u32, round: &[u32])
     requires { ⌜ (16 + (12 * length (now round) + 7) / 8 ≤ length (now a)) × (length (now round) ≤ 4096) × (ended < 4) × Small (now round) ⌝ }
-    ensures { λ _. ⌜ Answers (now (round .entry)) time units kicks ended (now (a .entry)) (now (a .exit)) ⌝ }
+    ensures { λ _. ⌜ Written (now (round .entry)) time units kicks ended (now (a .entry)) (now (a .exit)) ⌝ }
 {
     let n = round.len() as u32;
     put32(a, 0, 268435456 + ended * 67108864 + n * 8192);

@@ -34,10 +34,10 @@ pub fn put_pair(a: &mut [u8], at: usize, x: u32, y: u32)
 }
 
 // A last number of 12 bits at byte at, and zero bits.
-pub fn put_last(a: &mut [u8], at: usize, x: u32)
-    requires { ⌜ (at + 2 ≤ length (now a)) × (x < 4096) ⌝ }
-    ensures { λ _. ⌜ Wrote (now (a .entry)) at (bytesOf (bits 12 x)) (now (a .exit)) ⌝ }
+pub fn put_last(a: &mut [u8], at: usize, v: u32)
+    requires { ⌜ (at + 2 ≤ length (now a)) × (v < 4096) ⌝ }
+    ensures { λ _. ⌜ Wrote (now (a .entry)) at (bytesOf (bits 12 v)) (now (a .exit)) ⌝ }
 {
-    a[at] = (x / 16) as u8;
-    a[at + 1] = (x % 16 * 16) as u8;
+    a[at] = (v / 16) as u8;
+    a[at + 1] = (v % 16 * 16) as u8;
 }

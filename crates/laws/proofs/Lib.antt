@@ -42,6 +42,7 @@ pub mod SearchLaws
 pub mod SearchTimeLaws
 pub mod SegmentLaws
 pub mod SetLaws
+pub mod SheetLaws
 pub mod SinceLaws
 pub mod SpanLaws
 pub mod SpotLaws

@@ -4,6 +4,7 @@ use mathlib.Core.Path.{_∙_, _≡_, ap, refl, sym}
 use mathlib.Core.List.{List}
 use native.Mathlib.Nat.{add-mul, max-eq-left, max-eq-right, min-eq-left, min-eq-right, mul-add, mul-assoc, mul-comm, mul-le-mul-left, mul-one, one-mul}
 use native.Mathlib.Omega.{arith}
+use native.Mathlib.Decide.{decLt}
 use lib.Dec.{eqb}
 use borrow.Author.Tests.{eq-eqb, ne-eqb}
 use Rattle.rules.specs.Lists.{at, if_then_else_}
@@ -70,3 +71,12 @@ module _ (n : ℕ) (t : List Time) (a b : Stop) where
       let d : a ≡ b → ⊥ = λ e. omega arith in
       let k : b ≤ a = omega arith in
       rw (ne-eqb a b d, min-eq-right k, max-eq-left k)
+
+-- so it takes as long as its return
+pub leg-return : (n : ℕ) (t : List Time) (a b : Stop) → triangleLeg n t a b ≡ triangleLeg n t b a
+leg-return n t a b = go (decLt a b) (decLt b a)
+  where
+    go : Dec (a < b) → Dec (b < a) → triangleLeg n t a b ≡ triangleLeg n t b a
+    go (yes u) v = leg-up n t a b u ∙ sym (leg-down n t b a u)
+    go (no u) (yes v) = leg-down n t a b v ∙ sym (leg-up n t b a v)
+    go (no u) (no v) = sym (leg-same n t a b (omega arith)) ∙ leg-same n t b a (omega arith)

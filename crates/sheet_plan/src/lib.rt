@@ -10,7 +10,7 @@ ghost use Rattle.sheet_plan.specs.Load.{triangleIn, Loaded};
 use bits::read::read12;
 use bits::read::read16;
 use sheets::header::Header;
-use sheets::number::times;
+use sheets::sizes::times;
 
 // The leg from a to a higher b, read off the sheet's triangle.
 fn leg_at(s: &[u8], n: usize, a: usize, b: usize) -> u16

@@ -1,11 +1,12 @@
 -- The header, from the three words that hold it.
-use Prim.Native.Nat.{ℕ, _+_, _/_, _%_, _^_, _≤_}
+use Prim.Native.Nat.{ℕ, _+_, _/_, _%_, _^_, _≤_, _<_}
 use mathlib.Core.Path.{_≡_, refl, sym}
 use mathlib.Core.List.{List}
 use native.Mathlib.Omega.{arith}
 use lib.ListN.{length}
 use Rattle.rules.specs.Bits.{bitsOf, field}
 use Rattle.rules.specs.Sheets.{Header, headerIn}
+use Rattle.laws.proofs.BitLaws.{bitsOf-are, field-lt, length-bitsOf}
 use Rattle.bits.specs.Read.{Reads}
 use Rattle.bits.proofs.ReadLaws.{inside}
 
@@ -26,3 +27,10 @@ read-head s v b x l h hb hx =
       ← hb .is,
       ← hx .is,
     )
+
+-- its fields are no wider than their bits
+pub header-narrow : (s : List ℕ) → 16 ≤ length s → (headerIn (bitsOf s) .k < 32) × (headerIn (bitsOf s) .ka < 8)
+unfolding headerIn
+header-narrow s l =
+    let room : 28 ≤ length (bitsOf s) = rw length-bitsOf (omega arith) in
+    (field-lt (bitsOf-are s) 20 5 (omega arith), field-lt (bitsOf-are s) 25 3 (omega arith))

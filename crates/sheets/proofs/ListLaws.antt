@@ -1,20 +1,21 @@
 -- 6, entry by entry and stop by stop.
 use Prim.Native.Nat.{ℕ, suc, _+_, _-_, _*_, _≤_, _<_}
-use mathlib.Core.Path.{_≡_, sym, ap, _∙_}
+use mathlib.Core.Path.{_≡_, refl, sym, ap, _∙_}
 use mathlib.Core.Bool.{Bool, true, false, not, _&&_}
 use mathlib.Core.List.{List, _∷_}
 use native.Mathlib.Nat.{mul-le-mul-right, suc-mul, add-mul, one-mul}
 use native.Mathlib.Omega.{arith}
 use borrow.Author.Tests.{eq-eqb, ne-eqb, lt-ltb, le-ltb}
 use lib.Dec.{eqb}
-use lib.ListN.{take, drop}
+use lib.ListN.{length, take, drop}
 use lib.Seq.{drop-drop}
 use Rattle.rules.specs.Lists.{every, rising}
-use Rattle.rules.specs.Bits.{field, fields, valueFrom}
-use Rattle.rules.specs.Plan.{listIn}
+use Rattle.rules.specs.Bits.{bitsOf, field, fields, valueFrom}
+use Rattle.rules.specs.Plan.{listIn, nearOf, alphaOf}
+use Rattle.rules.specs.Sheets.{Header, nearAt, alphaAt, endAt, planOn}
 use Rattle.rules.specs.Numbers.{goodList}
 use Rattle.laws.proofs.BitLaws.{fields-part}
-use Rattle.sheets.specs.Sheet.{goodRow}
+use Rattle.sheets.specs.Sheet.{goodRow, goodLists}
 
 -- ---- a stop's list
 pub fields-cons : (w c p j : ℕ) (bs : List ℕ) → j < c → fields w (c - j) (drop p bs) ≡ field bs p w ∷ fields w (c - (j + 1)) (drop (p + w) bs)
@@ -99,3 +100,30 @@ module _ (bs : List ℕ) (at n k : ℕ) where
   pub list-done : (v : ℕ) → n ≤ v → listsLeft (n - v) v ≡ true
   unfolding listsLeft every rising
   list-done v l = let e : n - v ≡ 0 = omega arith in rw e
+
+-- ---- both lists of a sheet
+module _ (h : Header) (s : List ℕ) (r : endAt h ≤ 8 * length s) (a b : ℕ) (e : a ≡ h.n * (h.n - 1)) (f : b ≡ h.n * h.k) where
+  end-is : endAt h ≡ 128 + 8 * (h.n * (h.n - 1)) + 12 * (h.n * h.k) + 12 * (h.n * h.ka)
+  unfolding endAt alphaAt nearAt
+  end-is = refl
+
+  pub near-room : 128 + 8 * a + 12 * (h.n * h.k) ≤ 8 * length s
+  near-room = omega (arith, r, end-is, e, f)
+
+  pub alpha-room : 128 + 8 * a + 12 * b + 12 * (h.n * h.ka) ≤ 8 * length s
+  alpha-room = omega (arith, r, end-is, e, f)
+
+  -- the near list fails; it passes, and the alpha list decides
+  pub near-bad : false ≡ goodList h.n (listIn h.k (fields 12 (h.n * h.k) (drop (128 + 8 * a) (bitsOf s)))) → false ≡ goodLists h s
+  unfolding goodLists planOn nearOf alphaOf nearAt alphaAt
+  near-bad x =
+      let y : false ≡ goodList h.n (listIn h.k (fields 12 (h.n * h.k) (drop (128 + 8 * (h.n * (h.n - 1))) (bitsOf s)))) = rw (← e) x in
+      rw (← y)
+
+  pub alpha-decides : (t : Bool) → true ≡ goodList h.n (listIn h.k (fields 12 (h.n * h.k) (drop (128 + 8 * a) (bitsOf s)))) →
+      t ≡ goodList h.n (listIn h.ka (fields 12 (h.n * h.ka) (drop (128 + 8 * a + 12 * b) (bitsOf s)))) → t ≡ goodLists h s
+  unfolding goodLists planOn nearOf alphaOf nearAt alphaAt
+  alpha-decides t x z =
+      let y : true ≡ goodList h.n (listIn h.k (fields 12 (h.n * h.k) (drop (128 + 8 * (h.n * (h.n - 1))) (bitsOf s)))) = rw (← e) x in
+      let w : t ≡ goodList h.n (listIn h.ka (fields 12 (h.n * h.ka) (drop (128 + 8 * (h.n * (h.n - 1)) + 12 * (h.n * h.k)) (bitsOf s)))) = rw (← e, ← f) z in
+      rw (← y) w

@@ -5,7 +5,10 @@ ghost use lib.ListN.{length, drop};
 ghost use Rattle.rules.specs.Bits.{bitsOf, fields};
 ghost use Rattle.rules.specs.Plan.{listIn};
 ghost use Rattle.rules.specs.Numbers.{goodList};
-ghost use Rattle.sheets.specs.Sheet.{goodRow};
+ghost use Rattle.rules.specs.Sheets.{endAt};
+ghost use Rattle.sheets.specs.Sheet.{headerOf, Sizes, goodRow, goodLists};
+use crate::header::Header;
+use crate::sizes::times;
 use bits::read::read12;
 
 // The k entries of stop v, 12 bits each from bit at on, are below n, and none is v.
@@ -43,4 +46,18 @@ pub fn list_good(s: &[u8], at: usize, n: usize, k: usize) -> bool
         }
     }
     true
+}
+
+// Near and alpha lists.
+pub fn lists_good(s: &[u8], h: Header) -> bool
+    requires { ⌜ Sizes (headerOf h) ⌝ }
+    requires { ⌜ endAt (headerOf h) ≤ 8 * length (now s) ⌝ }
+    ensures { λ r. ⌜ r ≡ goodLists (headerOf h) (now (s .entry)) ⌝ }
+{
+    let near = 128 + 8 * times(h.n, h.n - 1);
+    let alpha = near + 12 * times(h.n, h.k);
+    if list_good(s, near, h.n, h.k) {
+        return list_good(s, alpha, h.n, h.ka);
+    }
+    false
 }

@@ -1,38 +1,32 @@
 // The number of a sheet: 9, 1, 2, 10, 4, 6.
 ghost use mathlib.Core.Path.{_≡_};
-ghost use Prim.Native.Nat.{ℕ, _*_, _≤_};
+ghost use mathlib.Core.List.{[], _∷_};
+ghost use Prim.Native.Nat.{ℕ};
 ghost use Rattle.rules.specs.Bits.{bitsOf};
 ghost use Rattle.rules.specs.Sheets.{headerIn, sheetChecks};
-ghost use Rattle.rules.specs.Numbers.{verdict};
-ghost use Rattle.sheets.specs.Sheet.{headerOf, Sizes, goodEnd, Ready};
-use crate::header::Header;
+ghost use Rattle.rules.specs.Numbers.{verdict, _or_};
+ghost use Rattle.sheets.specs.Sheet.{firstOf, Ready};
+use crate::ends::end_good;
 use crate::header::read_header;
-use crate::lists::list_good;
+use crate::lists::lists_good;
 use crate::sizes::head_number;
+use crate::sizes::told_good;
 
-// A product that is small.
-pub fn times(a: usize, b: usize) -> usize
-    requires { ⌜ (a ≤ 128) × (b ≤ 256) ⌝ }
-    ensures { λ r. ⌜ (r ≡ a * b) × (r ≤ 32768) ⌝ }
+// The number of a test that fails, else 0.
+fn number_of(good: bool, number: u32) -> u32
+    ensures { λ r. ⌜ r ≡ verdict ((good or number) ∷ []) ⌝ }
 {
-    a * b
+    if good { 0 } else { number }
 }
 
-// The length of a sheet, and the spare bits at its end.
-pub fn end_good(s: &[u8], h: Header) -> bool
-    requires { ⌜ Sizes (headerOf h) ⌝ }
-    ensures { λ r. ⌜ r ≡ goodEnd (headerOf h) (now (s .entry)) ⌝ }
+// The first of two numbers that is not 0.
+fn first_number(one: u32, next: u32) -> u32
+    ensures { λ r. ⌜ r ≡ firstOf one next ⌝ }
 {
-    let ends = 128 + 8 * times(h.n, h.n - 1) + 12 * times(h.n, h.k) + 12 * times(h.n, h.ka);
-    let len = (ends + 7) / 8;
-    if s.len() != len {
-        return false;
+    if one != 0 {
+        return one;
     }
-    if ends % 8 == 0 {
-        return true;
-    }
-    let last = len - 1;
-    s[last] % 16 == 0
+    next
 }
 
 // The number of a sheet, where the answer has room bytes.
@@ -43,22 +37,18 @@ pub fn sheet_number(s: &[u8], room: usize) -> u32
         return 9;
     }
     let h = read_header(s);
-    let no = head_number(h);
-    if no != 0 {
-        return no;
+    let head = head_number(h);
+    if head != 0 {
+        return head;
     }
-    if end_good(s, h) {
-        if room < 16 + (12 * h.n + 7) / 8 {
-            return 4;
-        }
-        let near = 128 + 8 * times(h.n, h.n - 1);
-        if list_good(s, near, h.n, h.k) {
-            let alpha = near + 12 * times(h.n, h.k);
-            if list_good(s, alpha, h.n, h.ka) {
-                return 0;
-            }
-        }
-        return 6;
+    let told = number_of(told_good(h), 2);
+    let ends = number_of(end_good(s, h), 10);
+    let next = first_number(told, ends);
+    if next != 0 {
+        return next;
     }
-    10
+    if room < 16 + (12 * h.n + 7) / 8 {
+        return 4;
+    }
+    number_of(lists_good(s, h), 6)
 }

@@ -29,7 +29,7 @@ same-length : tie.Need-same-length
 same-length c = search needs
 
 returns : tie.Need-returns
-returns c = put-last (c .args .a .now) (c .args .at) (c .args .x) (c .pre .0) (c .pre .1)
+returns c = put-last (c .args .a .now) (c .args .at) (c .args .v) (c .pre .0) (c .pre .1)
 
 pub put-last-spec : {M : Type 1} → statement M
 put-last-spec =

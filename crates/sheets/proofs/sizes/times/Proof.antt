@@ -2,8 +2,8 @@ use mathlib.Core.Path.{refl}
 use native.Mathlib.Nat.{mul-le-mul}
 use borrow.Author.Needs.{needs}
 use native.Mathlib.Omega.{arith}
-use Rattle.sheets.proofs.number.times.Statement.{statement}
-use Rattle.sheets.proofs.number.times.Tie as tie
+use Rattle.sheets.proofs.sizes.times.Statement.{statement}
+use Rattle.sheets.proofs.sizes.times.Tie as tie
 
 mul-result : tie.Need-mul-result
 mul-result c = omega (arith, mul-le-mul (c .pre .0) (c .pre .1))

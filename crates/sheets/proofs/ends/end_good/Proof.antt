@@ -1,13 +1,13 @@
 use Prim.Native.Nat.{_/_}
 use lib.ListN.{getD}
 use Rattle.sheets.proofs.EndLaws.{end-at, end-bad, end-whole, end-spare}
-use Rattle.sheets.specs.Sheet.{headerOf, Sizes}
+use Rattle.sheets.specs.Sheet.{headerOf}
 use Prim.Native.Nat.{ℕ, _+_, _-_, _*_, _≤_, _<_}
 use mathlib.Core.Path.{_≡_, refl, sym, ap, _∙_, subst}
 use native.Mathlib.Omega.{arith}
 use borrow.Author.Needs.{needs}
-use Rattle.sheets.proofs.number.end_good.Statement.{statement}
-use Rattle.sheets.proofs.number.end_good.Tie as tie
+use Rattle.sheets.proofs.ends.end_good.Statement.{statement}
+use Rattle.sheets.proofs.ends.end_good.Tie as tie
 
 sub-times : tie.Need-sub-times
 sub-times c = search needs
