@@ -19,6 +19,7 @@ pub mod KickTimeLaws
 pub mod KickedLaws
 pub mod LandLaws
 pub mod LeftLaws
+pub mod Lk3FromLaws
 pub mod Lk3Laws
 pub mod LkLaws
 pub mod Lone3Laws

@@ -1,10 +1,10 @@
 -- What a level hands to the next one.
-use Prim.Native.Nat.{ℕ, _+_, _-_, _*_, _≤_, _<_}
+use Prim.Native.Nat.{ℕ, _+_, _≤_, _<_}
 use mathlib.Core.Path.{_≡_, sym, _∙_, subst}
 use mathlib.Core.Bool.{Bool, true, false, _||_}
 use mathlib.Core.List.{List}
 use native.Mathlib.Omega.{arith}
-use borrow.Author.Tests.{eq-eqb, ne-eqb, eqb-true, eqb-false}
+use borrow.Author.Tests.{ne-eqb, eqb-true, eqb-false}
 use lib.Dec.{eqb}
 use lib.ListN.{length}
 use Rattle.rules.specs.Words.{Stop, Place, Time, Round}
@@ -77,14 +77,14 @@ level-again {r} {r₁} {st = st} {st′ = st′} {t3 = t3} {t4 = t4} {t5 = t5} {
       above = omega arith;
       journalled = record { good = m .good; room = omega (arith, m .high, v .journalled .room) };
       stacks = subst (λ n. Stacked n (level + 1) st′) (sym e)
-      (record {
-        room = gr .room;
-        steps-are = omega (arith, gr .steps-more, s .steps-are);
-        added-are = omega (arith, gr .added-more, s .added-are);
-        removed-are = omega (arith, gr .removed-more, s .removed-are);
-        stepping = gr .stepping (length r) (l .low3) (l .low4) (l .low5) (l .low6) (s .stepping);
-        first-low = omega (arith, gr .first-same, s .first-low);
-      });
+          (record {
+            room = gr .room;
+            steps-are = omega (arith, gr .steps-more, s .steps-are);
+            added-are = omega (arith, gr .added-more, s .added-are);
+            removed-are = omega (arith, gr .removed-more, s .removed-are);
+            stepping = gr .stepping (length r) (l .low3) (l .low4) (l .low5) (l .low6) (s .stepping);
+            first-low = omega (arith, gr .first-same, s .first-low);
+          });
       low2 = omega (arith, l .low6);
       small = omega (arith, v .small);
     }

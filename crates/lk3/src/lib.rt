@@ -171,8 +171,25 @@ pub fn lk3_level(
 {
     let fwd = same(succ(round, places, t1), t2);
     lk3_level_dir(
-        matrix, near, k, alpha, ka, round, places, scratch, queue, flags, journal, held, line, st,
-        fwd, t1, t2, g, level,
+        matrix,
+        near,
+        k,
+        alpha,
+        ka,
+        round,
+        places,
+        scratch,
+        queue,
+        flags,
+        journal,
+        held,
+        line,
+        st,
+        fwd,
+        t1,
+        t2,
+        g,
+        level,
     )
 }
 
@@ -230,8 +247,21 @@ pub fn lk3_level_dir(
         let len = st.steps_len;
         let first = Stop(st.first);
         return close_step(
-            round, places, scratch, queue, flags, journal, held, line, fwd, t1, t2, first,
-            &st.steps, len, mv,
+            round,
+            places,
+            scratch,
+            queue,
+            flags,
+            journal,
+            held,
+            line,
+            fwd,
+            t1,
+            t2,
+            first,
+            &st.steps,
+            len,
+            mv,
         );
     }
     let breadth = lk3_breadth(level);
@@ -304,8 +334,24 @@ pub fn lk3_side(
     let d12 = dist(matrix, n, t1, t2);
     let st = lk_new(t1, t2);
     lk3_level(
-        matrix, near, k, alpha, ka, round, places, scratch, queue, flags, journal, held, line, st,
-        t1, t2, d12, 0,
+        matrix,
+        near,
+        k,
+        alpha,
+        ka,
+        round,
+        places,
+        scratch,
+        queue,
+        flags,
+        journal,
+        held,
+        line,
+        st,
+        t1,
+        t2,
+        d12,
+        0,
     )
 }
 
@@ -344,7 +390,20 @@ pub fn lk3_from(
         };
     }
     let after = lk3_side(
-        matrix, near, k, alpha, ka, round, places, scratch, queue, flags, journal, held, line, true,
+        matrix,
+        near,
+        k,
+        alpha,
+        ka,
+        round,
+        places,
+        scratch,
+        queue,
+        flags,
+        journal,
+        held,
+        line,
+        true,
         t1,
     );
     if 0 < after.gain {
