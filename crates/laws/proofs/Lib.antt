@@ -24,6 +24,7 @@ pub mod KickedLaws
 pub mod LandLaws
 pub mod LeavesLaws
 pub mod LeftLaws
+pub mod Lk3FromLaws
 pub mod Lk3Laws
 pub mod LkLaws
 pub mod Lone3Laws
