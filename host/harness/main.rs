@@ -8,12 +8,23 @@ mod chance;
 #[allow(dead_code)]
 mod checks;
 #[allow(dead_code)]
+mod generate;
+#[allow(dead_code)]
+mod generate_calls;
+#[allow(dead_code)]
+mod generate_sheets;
+#[allow(dead_code)]
 mod lent;
+#[allow(dead_code)]
+mod script;
 #[allow(dead_code)]
 mod shapes;
 #[allow(dead_code)]
+mod sheet;
+#[allow(dead_code)]
 mod tsp;
 // Ours.
+mod calls;
 mod exact;
 mod found;
 mod probe;
@@ -23,6 +34,8 @@ mod start;
 const USAGE: &str =
     "usage: harness start SEED COUNT [--n LO HI]    1 to 4096 stops, by itself 1 to 140
        harness exact SEED COUNT [--n LO HI]    1 to 25 stops, by itself 1 to 12
+       harness kicks SEED COUNT [--n LO HI]    2 to 4096 stops, by itself 2 to 140
+       harness calls SEED COUNT [--n LO HI]    2 to 4096 stops, by itself 2 to 40
        harness speed";
 
 #[cfg(not(emulated))]
@@ -52,6 +65,8 @@ fn run(words: &[&str]) -> Result<bool, String> {
     match words {
         ["start", rest @ ..] => compared("start", rest, (1, 140), 4096, start::compare),
         ["exact", rest @ ..] => compared("exact", rest, (1, 12), 25, exact::compare),
+        ["kicks", rest @ ..] => compared("kicks", rest, (2, 140), 4096, calls::kicks),
+        ["calls", rest @ ..] => compared("calls", rest, (2, 40), 4096, calls::scripts),
         ["speed"] => Ok(speed::measure()),
         _ => Err("no such command".to_string()),
     }
@@ -77,8 +92,13 @@ fn compared(
     }
     let found = compare(seed, count, range);
     println!(
-        "{name}: seed {seed}, {count} matrices of {} to {} stops: {} rounds, {} refusals, {} differences",
-        range.0, range.1, found.rounds, found.refusals, found.differences
+        "{name}: seed {seed}, {count} matrices of {} to {} stops: {} {}, {} refusals, {} differences",
+        range.0,
+        range.1,
+        found.rounds,
+        if ["kicks", "calls"].contains(&name) { "calls" } else { "rounds" },
+        found.refusals,
+        found.differences
     );
     Ok(found.differences == 0)
 }

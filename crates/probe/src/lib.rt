@@ -2,6 +2,8 @@
 ghost use Rattle.start.specs.Started.{Started};
 ghost use Rattle.exact.specs.Promise.{Solve};
 
+mod calls;
+
 // The start round by blocks.
 #[no_mangle]
 pub extern "C" fn probe_nearest_neighbor_tour(matrix: &[u16], n: usize, round: &mut [u32]) -> u32
