@@ -1,4 +1,4 @@
-"""Descents of each step kind, kept and committed, with budgets of 0, few and enough units. They join the list once `replay` knows the call."""
+"""Descents of each step kind, kept and committed, with budgets of 0, few and enough units."""
 from draws import Draws
 from plans import any_others, drawn, nearest, points
 from sessions import Session

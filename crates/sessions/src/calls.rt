@@ -15,6 +15,7 @@ use lending::memory::keep8;
 use lending::memory::within;
 use lending::session::Session;
 use lending::told::COMMIT;
+use lending::told::DESCEND;
 use lending::told::HEAD;
 use lending::told::KICK;
 use lending::told::LOAD;
@@ -141,6 +142,48 @@ fn kick(
     out
 }
 
+// Descends, kept or committed.
+fn descend(
+    session: Session,
+    keeps: bool,
+    step: u32,
+    budget: u32,
+    matrix: &[u16],
+    near: &[u32],
+    alpha: &[u32],
+    round: &mut [u32],
+    places: &mut [u32],
+    queue: &mut [u32],
+    flags: &mut [u8],
+    scratch: &mut [u32],
+    journal: &mut [u32],
+) -> Outcome {
+    let descended = planner::descend(
+        session.n,
+        session.k,
+        session.ka,
+        matrix,
+        near,
+        alpha,
+        round,
+        places,
+        queue,
+        flags,
+        scratch,
+        journal,
+        state_of(session),
+        keeps,
+        step,
+        budget,
+    );
+    let state = descended.state;
+    let mut out = settled(session, descended.number, state);
+    out.gain = descended.gain;
+    out.units = descended.units;
+    out.ended = descended.ended;
+    out
+}
+
 // Commits.
 fn commit(
     session: Session,
@@ -240,6 +283,24 @@ fn call(
         return kick(
             session,
             word(bytes, 4),
+            matrix,
+            near,
+            alpha,
+            round,
+            places,
+            queue,
+            flags,
+            scratch,
+            journal,
+        );
+    }
+    if kind == DESCEND {
+        let keeps = word(bytes, 4) != 0;
+        return descend(
+            session,
+            keeps,
+            word(bytes, 8),
+            word(bytes, 12),
             matrix,
             near,
             alpha,
