@@ -107,6 +107,8 @@ CALLS = [
     lambda session: session.commit(),
     lambda session: session.kick(0),
     lambda session: session.kick(2),
+    lambda session: session.descend(True, 0, 20),
+    lambda session: session.descend(False, 2, 20),
     lambda session: session.undo(),
     lambda session: session.load([3, 1, 4, 0, 5, 2, 6]),
 ]
@@ -138,12 +140,14 @@ def each_call(oracle, records, damages):
 
 
 def wrong_words(oracle, records):
-    """Kick kinds that are none, start rounds of a wrong length and no permutation; alone, and after another number."""
+    """Kick and step kinds that are none, start rounds of a wrong length and no permutation; alone, and after another number."""
     for damage in [lambda session: None, time_by(1), sizing("scratch", 1), uneven(2, 5)]:
         session = busy(oracle, records)
         damage(session)
         for kind in (3, 4, BIG):
             session.kick(kind)
+            session.descend(True, kind, 5)
+            session.descend(False, kind, 5)
         starts = [range(N - 1), range(N + 1), [], [0] * N, range(1, N + 1), [0, 1, 2, 3, 4, 5, 5], [0, 1, 2, 3, 4, 5, 65535]]
         for start in starts:
             session.load(list(start))
@@ -162,4 +166,7 @@ def sizes(oracle, records):
             session.size(name, session.now["sizes"][name] - 1)
             session.kick(0)
             session.size(name, session.now["sizes"][name] + 1)
+        # Kinds 1 and 2 need an alpha list.
+        for step in (1, 2, 0):
+            session.descend(step != 2, step, 5)
         session.load(range(n))
