@@ -1,4 +1,4 @@
-//! The public calls against the oracle's: kicks at any size, and whole call scripts with damage and refusals.
+//! The public calls against the oracle's: kicks and descents at any size, and whole call scripts with damage and refusals.
 
 use crate::chance::Chance;
 use crate::found::Found;
@@ -11,6 +11,8 @@ use crate::{generate, generate_calls, probe, shapes};
 enum Call {
     Load(Vec<u32>),
     Kick(u32),
+    /// Kept or committed, step kind, budget.
+    Descend(bool, u32, u32),
     Commit,
     Undo,
 }
@@ -22,6 +24,11 @@ impl Call {
         match words.as_slice() {
             ["load", stops @ ..] => Some(Call::Load(script::numbers(stops).ok()?)),
             ["kick", kind] => Some(Call::Kick(script::number(kind).ok()?)),
+            ["descend", manner, step, budget] => Some(Call::Descend(
+                *manner == "kept",
+                script::number(step).ok()?,
+                script::number(budget).ok()?,
+            )),
             ["commit"] => Some(Call::Commit),
             ["undo"] => Some(Call::Undo),
             _ => None,
@@ -32,6 +39,7 @@ impl Call {
         match self {
             Call::Load(start) => calls::load(lent, start),
             Call::Kick(kind) => calls::kick(lent, *kind),
+            Call::Descend(keeps, step, budget) => calls::descend(lent, *keeps, *step, *budget),
             Call::Commit => calls::commit(lent),
             Call::Undo => calls::undo(lent),
         }
@@ -41,6 +49,7 @@ impl Call {
         match self {
             Call::Load(start) => probe::load(lent, start),
             Call::Kick(kind) => probe::kick(lent, *kind),
+            Call::Descend(keeps, step, budget) => probe::descend(lent, *keeps, *step, *budget),
             Call::Commit => probe::commit(lent),
             Call::Undo => probe::undo(lent),
         }
@@ -49,6 +58,15 @@ impl Call {
 
 /// Kicks of every kind after a load, with commits and undos among them.
 pub fn kicks(seed: u64, count: usize, range: (usize, usize)) -> Found {
+    turns(seed, count, range, false)
+}
+
+/// The same with a descent after most kicks, of each step kind, kept and committed.
+pub fn descents(seed: u64, count: usize, range: (usize, usize)) -> Found {
+    turns(seed, count, range, true)
+}
+
+fn turns(seed: u64, count: usize, range: (usize, usize), descents: bool) -> Found {
     let (mut chance, mut found) = (Chance::new(seed), Found::default());
     for item in 0..count {
         let n = chance.from(range.0.max(2), range.1);
@@ -70,6 +88,10 @@ pub fn kicks(seed: u64, count: usize, range: (usize, usize)) -> Found {
                     Call::Load(start)
                 }
                 (_, 1) => Call::Commit,
+                (_, 3..=5) if descents => {
+                    let budget = [0, 1, 5, 100, 4_294_967_295][chance.below(5)];
+                    Call::Descend(chance.below(2) == 0, chance.below(3) as u32, budget)
+                }
                 (_, 2) => Call::Undo,
                 _ => Call::Kick(chance.below(3) as u32),
             };

@@ -35,6 +35,7 @@ const USAGE: &str =
     "usage: harness start SEED COUNT [--n LO HI]    1 to 4096 stops, by itself 1 to 140
        harness exact SEED COUNT [--n LO HI]    1 to 25 stops, by itself 1 to 12
        harness kicks SEED COUNT [--n LO HI]    2 to 4096 stops, by itself 2 to 140
+       harness descents SEED COUNT [--n LO HI] 2 to 4096 stops, by itself 2 to 140
        harness calls SEED COUNT [--n LO HI]    2 to 4096 stops, by itself 2 to 40
        harness speed";
 
@@ -66,6 +67,7 @@ fn run(words: &[&str]) -> Result<bool, String> {
         ["start", rest @ ..] => compared("start", rest, (1, 140), 4096, start::compare),
         ["exact", rest @ ..] => compared("exact", rest, (1, 12), 25, exact::compare),
         ["kicks", rest @ ..] => compared("kicks", rest, (2, 140), 4096, calls::kicks),
+        ["descents", rest @ ..] => compared("descents", rest, (2, 140), 4096, calls::descents),
         ["calls", rest @ ..] => compared("calls", rest, (2, 40), 4096, calls::scripts),
         ["speed"] => Ok(speed::measure()),
         _ => Err("no such command".to_string()),
@@ -96,7 +98,7 @@ fn compared(
         range.0,
         range.1,
         found.rounds,
-        if ["kicks", "calls"].contains(&name) { "calls" } else { "rounds" },
+        if ["kicks", "descents", "calls"].contains(&name) { "calls" } else { "rounds" },
         found.refusals,
         found.differences
     );

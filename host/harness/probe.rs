@@ -87,6 +87,39 @@ extern "C" {
         draw: *mut u64,
         change: *mut i32,
     ) -> u32;
+    fn probe_descend(
+        n: usize,
+        k: usize,
+        ka: usize,
+        matrix: *const u16,
+        cells: usize,
+        near: *const u32,
+        nears: usize,
+        alpha: *const u32,
+        alphas: usize,
+        round: *mut u32,
+        rounds: usize,
+        places: *mut u32,
+        placed: usize,
+        queue: *mut u32,
+        queued: usize,
+        flags: *mut u8,
+        flagged: usize,
+        scratch: *mut u32,
+        scratched: usize,
+        journal: *mut u32,
+        words: usize,
+        head: *mut usize,
+        count: *mut usize,
+        held: *mut usize,
+        time: *mut u32,
+        keeps: bool,
+        step: u32,
+        budget: u32,
+        gain: *mut u32,
+        units: *mut u32,
+        ended: *mut u32,
+    ) -> u32;
     fn probe_commit(
         n: usize,
         k: usize,
@@ -222,6 +255,19 @@ pub fn kick(lent: &mut Lent, kind: u32) -> Answer {
     let number = over!(probe_kick, lent, kind, &mut lent.draw, &mut change);
     Answer {
         change: i64::from(change),
+        ..answer(number)
+    }
+}
+
+/// Descends, kept or committed.
+pub fn descend(lent: &mut Lent, keeps: bool, step: u32, budget: u32) -> Answer {
+    // Results that no descent gives, so that a word left alone shows.
+    let (mut gain, mut units, mut ended) = (u32::MAX, u32::MAX, u32::MAX);
+    let number = over!(probe_descend, lent, keeps, step, budget, &mut gain, &mut units, &mut ended);
+    Answer {
+        gain: i64::from(gain),
+        units,
+        ended: ended.min(255) as u8,
         ..answer(number)
     }
 }

@@ -213,3 +213,65 @@ pub extern "C" fn probe_kick(
     *time = left.time;
     answer.number
 }
+
+// Descends: what the time fell by, the stops taken and how it ended are left in `gain`, `units` and `ended`. Proved safe; `planner::descend` has
+// the promise.
+#[no_mangle]
+pub extern "C" fn probe_descend(
+    n: usize,
+    k: usize,
+    ka: usize,
+    matrix: &[u16],
+    near: &[u32],
+    alpha: &[u32],
+    round: &mut [u32],
+    places: &mut [u32],
+    queue: &mut [u32],
+    flags: &mut [u8],
+    scratch: &mut [u32],
+    journal: &mut [u32],
+    head: &mut usize,
+    count: &mut usize,
+    held: &mut usize,
+    time: &mut u32,
+    keeps: bool,
+    step: u32,
+    budget: u32,
+    gain: &mut u32,
+    units: &mut u32,
+    ended: &mut u32,
+) -> u32 {
+    let state = State {
+        head: *head,
+        count: *count,
+        held: *held,
+        time: *time,
+    };
+    let answer = planner::descend(
+        n,
+        k,
+        ka,
+        matrix,
+        near,
+        alpha,
+        round,
+        places,
+        queue,
+        flags,
+        scratch,
+        journal,
+        state,
+        keeps,
+        step,
+        budget,
+    );
+    let left = answer.state;
+    *gain = answer.gain;
+    *units = answer.units;
+    *ended = answer.ended;
+    *head = left.head;
+    *count = left.count;
+    *held = left.held;
+    *time = left.time;
+    answer.number
+}
