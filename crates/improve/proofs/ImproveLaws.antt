@@ -86,7 +86,7 @@ module _ (matrix : List Time) (k : ℕ) (near : List Stop) (fwd : Bool) (t1 : St
 module _ (n : ℕ) (matrix : List Time) (k : ℕ) (near : List Stop) (ka : ℕ) (alpha : List Stop) (t1 : Stop) (t : Track) where
   -- it reads no alpha list
   pub improve-any : (fwd : Bool) → improve (nearPlan n matrix k near) fwd t1 t ≡ improve (planOf n matrix k near ka alpha) fwd t1 t
-  unfolding improve nearPlan planOf legOf nearOf
+  unfolding improve nearPlan legOf nearOf
   improve-any fwd = refl
 
   pub both-is : orElse (improve (planOf n matrix k near ka alpha) true t1 t) (improve (planOf n matrix k near ka alpha) false t1) ≡ improveBoth (planOf n matrix k near ka alpha) t1 t

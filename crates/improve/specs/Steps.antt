@@ -10,12 +10,11 @@ use Rattle.queue.specs.Lines.{Waits}
 use Rattle.moves.specs.Moves.{Made, caseOf}
 
 -- the plan of what is lent
-unfoldable pub planOf : ℕ → List Time → ℕ → List Stop → ℕ → List Stop → Plan
+abbrev pub planOf : ℕ → List Time → ℕ → List Stop → ℕ → List Stop → Plan
 planOf n matrix k near ka alpha = record { n = n; matrix = matrix; k = k; near = near; ka = ka; alpha = alpha }
 
 -- and of what is lent to `improve`, which reads no alpha list
 unfoldable pub nearPlan : ℕ → List Time → ℕ → List Stop → Plan
-unfolding planOf
 nearPlan n matrix k near = planOf n matrix k near 0 []
 
 -- a move of a number's case as a trial

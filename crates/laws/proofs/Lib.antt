@@ -3,6 +3,7 @@ pub mod BoundLaws
 pub mod CellLaws
 pub mod CheckLaws
 pub mod ChoiceLaws
+pub mod ContLaws
 pub mod DescendLaws
 pub mod DrawLaws
 pub mod EntryLaws
@@ -24,6 +25,7 @@ pub mod LeavesLaws
 pub mod LeftLaws
 pub mod Lk3Laws
 pub mod LkLaws
+pub mod Lone3Laws
 pub mod LoneLaws
 pub mod MoveWayLaws
 pub mod NearestLaws
@@ -45,6 +47,7 @@ pub mod SearchTimeLaws
 pub mod SegmentLaws
 pub mod SetLaws
 pub mod SinceLaws
+pub mod SkipLaws
 pub mod SpanLaws
 pub mod SpotLaws
 pub mod StartLaws

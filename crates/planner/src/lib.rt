@@ -274,13 +274,15 @@ pub fn kick(
         kind,
     );
     let l = k.line;
+    let higher = state.time + k.added;
+    let time = higher - k.removed;
     Kicked {
         number: 0,
         state: State {
             head: l.head,
             count: l.count,
             held: k.held,
-            time: state.time + k.added - k.removed,
+            time: time,
         },
         change: kicks::change(k.added, k.removed),
     }

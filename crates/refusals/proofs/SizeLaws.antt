@@ -1,6 +1,6 @@
 -- 1 to 4: sizes and lengths, test by test, and what they are where none fails.
 use Prim.Native.Nat.{ℕ, _*_, _/_, _<_, _≤_}
-use mathlib.Core.Path.{_≡_, refl}
+use mathlib.Core.Path.{_≡_, refl, _∙_}
 use mathlib.Core.Logic.{_≢_}
 use mathlib.Core.Bool.{Bool, true, false, _&&_}
 use mathlib.Core.List.{List, [], _∷_}
@@ -82,21 +82,15 @@ module _ (n k ka cells near alpha : ℕ) where
   plan-left c h = simp (eq-eqb cells (n * n) c, eq-eqb near (n * k) h)
 
   module _ (lengths : List ℕ) (words : ℕ) where
-    pub odd-plan : planLong n k ka cells near alpha ≡ false → 3 ≡ verdict (lengthChecks n k ka cells near alpha lengths words)
+    -- by the numbers of the two checks
+    pub first-fails : (three four r : ℕ) → three ≡ (if planLong n k ka cells near alpha && long n lengths then 0 else 3) → four ≡ (if leb 512 (words / 5) then 0 else 4)
+        → r ≡ (if eqb three 0 then four else three) → r ≡ verdict (lengthChecks n k ka cells near alpha lengths words)
     unfolding verdict lengthChecks
-    odd-plan h = simp h
-
-    pub odd-lengths : planLong n k ka cells near alpha ≡ true → long n lengths ≡ false → 3 ≡ verdict (lengthChecks n k ka cells near alpha lengths words)
-    unfolding verdict lengthChecks
-    odd-lengths h g = simp (h, g)
-
-    pub little-room : planLong n k ka cells near alpha ≡ true → long n lengths ≡ true → words / 5 < 512 → 4 ≡ verdict (lengthChecks n k ka cells near alpha lengths words)
-    unfolding verdict lengthChecks
-    little-room h g f = simp (h, g, lt-leb 512 (words / 5) f)
-
-    pub much-room : planLong n k ka cells near alpha ≡ true → long n lengths ≡ true → 512 ≤ words / 5 → 0 ≡ verdict (lengthChecks n k ka cells near alpha lengths words)
-    unfolding verdict lengthChecks
-    much-room h g f = simp (h, g, le-leb 512 (words / 5) f)
+    first-fails three four r e f g = g ∙ go (planLong n k ka cells near alpha && long n lengths) (leb 512 (words / 5)) e f
+      where
+        go : (a b : Bool) → three ≡ (if a then 0 else 3) → four ≡ (if b then 0 else 4) → (if eqb three 0 then four else three) ≡ (if a then (if b then 0 else 4) else 3)
+        go true b e f = rw e f
+        go false b e f = rw e refl
 
     pub record Long : Type 0 where
       pub cells-are : cells ≡ n * n
@@ -133,3 +127,13 @@ long-fails n x xs h = rw (ne-eqb x n h, every) refl
 pub long-next : (n x : ℕ) (xs : List ℕ) (b : Bool) → x ≡ n → b ≡ long n xs → b ≡ long n (x ∷ xs)
 unfolding long every
 long-next n x xs b h e = rw (eq-eqb x n h, every) e
+
+-- 3, by the plan's lengths and the others
+pub both-hold : (a b : Bool) → a ≡ true → b ≡ true → _≡_ {A = ℕ} 0 (if a && b then 0 else 3)
+both-hold a b e f = rw (e, f) refl
+
+pub second-fails : (a b : Bool) → a ≡ true → b ≡ false → _≡_ {A = ℕ} 3 (if a && b then 0 else 3)
+second-fails a b e f = rw (e, f) refl
+
+pub plan-fails : (a b : Bool) → a ≡ false → _≡_ {A = ℕ} 3 (if a && b then 0 else 3)
+plan-fails a b e = rw e refl

@@ -2,8 +2,10 @@
 ghost use mathlib.Core.Path.{_≡_};
 ghost use mathlib.Core.Bool.{Bool, _&&_};
 ghost use mathlib.Core.List.{List, [], _∷_};
-ghost use Prim.Native.Nat.{ℕ, _*_, _<_, _≤_};
+ghost use Prim.Native.Nat.{ℕ, _*_, _/_, _<_, _≤_};
+ghost use lib.Dec.{leb, eqb};
 ghost use lib.ListN.{length};
+ghost use Rattle.rules.specs.Lists.{if_then_else_};
 ghost use Rattle.rules.specs.Plan.{legIn, listIn};
 ghost use Rattle.rules.specs.Numbers.{verdict, goodStep, goodKick, long, symmetric as symmetricIn, goodList, callChecks, kickNumber, loadNumber};
 ghost use Rattle.rules.specs.Contracts.{Square};
@@ -160,6 +162,48 @@ fn all_long(
     more == n
 }
 
+// 3 where a lent length is not what n, k and ka say.
+fn long_number(
+    n: usize,
+    k: usize,
+    ka: usize,
+    cells: usize,
+    near: usize,
+    alpha: usize,
+    round: usize,
+    places: usize,
+    queue: usize,
+    flags: usize,
+    scratch: usize,
+    more: usize,
+) -> u32
+    requires { ⌜ n ≤ 4096 ⌝ }
+    requires { ⌜ k ≤ 20 ⌝ }
+    requires { ⌜ ka ≤ 5 ⌝ }
+    ensures { λ r. ⌜ r ≡ (if planLong n k ka cells near alpha && long n (round ∷ places ∷ queue ∷ flags ∷ scratch ∷ more ∷ []) then 0 else 3) ⌝ }
+{
+    if plan_long(n, k, ka, cells, near, alpha) {
+        if all_long(n, round, places, queue, flags, scratch, more) {
+            return 0;
+        }
+    }
+    3
+}
+
+// 4 where the journal's words are too few.
+fn room_number(words: usize) -> u32
+    ensures { λ r. ⌜ r ≡ (if leb 512 (words / 5) then 0 else 4) ⌝ }
+{
+    if words / 5 < 512 { 4 } else { 0 }
+}
+
+// Of the numbers of two checks, that of the first that fails.
+fn first_number(one: u32, next: u32) -> u32
+    ensures { λ r. ⌜ r ≡ (if eqb one 0 then next else one) ⌝ }
+{
+    if one != 0 { one } else { next }
+}
+
 // 3 and 4. The journal has so many words.
 fn lengths_number(
     n: usize,
@@ -181,15 +225,22 @@ fn lengths_number(
     requires { ⌜ ka ≤ 5 ⌝ }
     ensures { λ r. ⌜ r ≡ verdict (lengthChecks n k ka cells near alpha (round ∷ places ∷ queue ∷ flags ∷ scratch ∷ more ∷ []) words) ⌝ }
 {
-    if plan_long(n, k, ka, cells, near, alpha) {
-        if all_long(n, round, places, queue, flags, scratch, more) {
-            if words / 5 < 512 {
-                return 4;
-            }
-            return 0;
-        }
-    }
-    3
+    let lengths = long_number(
+        n,
+        k,
+        ka,
+        cells,
+        near,
+        alpha,
+        round,
+        places,
+        queue,
+        flags,
+        scratch,
+        more,
+    );
+    let room = room_number(words);
+    first_number(lengths, room)
 }
 
 // 5 and 6.

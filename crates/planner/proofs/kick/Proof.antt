@@ -52,8 +52,8 @@ kick-requires c κs =
     let s : Carried = (carrying (a .state .head) (a .state .count) (a .state .held) (a .state .time)) in
     let p = kick-passed l s (a .kind) (a .draw .now) (sym (kick-number .ensures) ∙ test1 .left) in (kick-ready l s (goodKick (a .kind) (a .draw .now)) (p .0) (p .1), (p .0 .lent .scratch-long ∙ sym (p .0 .lent .round-long), kind-good (a .kind) (a .draw .now) (p .0 .lent .asked) .0))
 
-add-t47 : tie.Need-add-t47
-add-t47 c =
+add-higher : tie.Need-add-higher
+add-higher c =
     let shared-slice-known = c .before .before .before .before .before .before .before .before .before .before .before .before .before .before .before .before .before .before .before .before .before .before .before .before .before .before .before .before .before .before .before .before .before .before .before .before .before .before .before .before .shared-slice-known in
     let a = c .before .before .before .before .before .before .before .before .before .before .before .before .before .before .before .before .before .before .before .before .before .before .before .before .before .before .before .before .before .before .before .before .before .before .before .before .before .before .before .before .before .args in
     let kick-number = c .before .before .before .before .before .before .before .before .before .before .before .before .before .before .before .before .before .before .before .before .before .before .before .before .kick-number in
@@ -63,8 +63,8 @@ add-t47 c =
     let s : Carried = (carrying (a .state .head) (a .state .count) (a .state .held) (a .state .time)) in
     let p = kick-passed l s (a .kind) (a .draw .now) (sym (kick-number .ensures) ∙ test1 .left) in omega (arith, time-small l s (goodKick (a .kind) (a .draw .now)) (p .0) (λ i h. omega (arith, shared-slice-known .given i)), kick .ensures .made .added-is .small)
 
-sub-t48 : tie.Need-sub-t48
-sub-t48 c =
+sub-time : tie.Need-sub-time
+sub-time c =
     let a = c .before .before .before .before .before .before .before .before .before .before .before .before .before .before .before .before .before .before .before .before .before .before .before .before .before .before .before .before .before .before .before .before .before .before .before .before .before .before .before .before .before .before .args in
     let kick-number = c .before .before .before .before .before .before .before .before .before .before .before .before .before .before .before .before .before .before .before .before .before .before .before .before .before .kick-number in
     let test1 = c .before .before .before .before .before .before .before .before .before .before .before .before .before .before .before .before .before .before .before .before .before .before .before .before .if1 in
@@ -121,8 +121,8 @@ kick-spec =
     same-length-6
     returns
     kick-requires
-    add-t47
-    sub-t48
+    add-higher
+    sub-time
     change-requires
     same-length-7
     same-length-8

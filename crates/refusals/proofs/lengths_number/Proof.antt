@@ -1,37 +1,26 @@
-use mathlib.Core.Path.{sym, _∙_}
 use mathlib.Core.List.{[], _∷_}
-use native.Mathlib.Omega.{arith}
 use borrow.Author.Needs.{needs}
-use Rattle.refusals.proofs.SizeLaws.{odd-plan, odd-lengths, little-room, much-room}
+use Rattle.refusals.proofs.SizeLaws.{first-fails}
 use Rattle.refusals.proofs.lengths_number.Statement.{statement}
 use Rattle.refusals.proofs.lengths_number.Tie as tie
 
-plan-long-requires : tie.Need-plan-long-requires
-plan-long-requires c κs = search needs
+long-number-requires : tie.Need-long-number-requires
+long-number-requires c κs = search needs
 
-all-long-requires : tie.Need-all-long-requires
-all-long-requires c κs = search needs
+room-number-requires : tie.Need-room-number-requires
+room-number-requires c κs = search needs
+
+first-number-requires : tie.Need-first-number-requires
+first-number-requires c κs = search needs
 
 returns : tie.Need-returns
 returns c =
-    let a = c .before .before .before .before .before .args in
-    little-room (a .n) (a .k) (a .ka) (a .cells) (a .near) (a .alpha) (a .round ∷ a .places ∷ a .queue ∷ a .flags ∷ a .scratch ∷ a .more ∷ []) (a .words) (sym ((c .before .before .before .before .plan-long) .ensures) ∙ (c .before .before .before .if1) .taken) (sym ((c .before .before .all-long) .ensures) ∙ (c .before .if2) .taken) ((c .if3) .taken)
-
-returns-2 : tie.Need-returns-2
-returns-2 c =
-    let a = c .before .before .before .before .before .args in
-    much-room (a .n) (a .k) (a .ka) (a .cells) (a .near) (a .alpha) (a .round ∷ a .places ∷ a .queue ∷ a .flags ∷ a .scratch ∷ a .more ∷ []) (a .words) (sym ((c .before .before .before .before .plan-long) .ensures) ∙ (c .before .before .before .if1) .taken) (sym ((c .before .before .all-long) .ensures) ∙ (c .before .if2) .taken) (omega (arith, (c .if3) .left))
-
-returns-3 : tie.Need-returns-3
-returns-3 c =
-    let a = c .before .before .before .before .args in
-    odd-lengths (a .n) (a .k) (a .ka) (a .cells) (a .near) (a .alpha) (a .round ∷ a .places ∷ a .queue ∷ a .flags ∷ a .scratch ∷ a .more ∷ []) (a .words) (sym ((c .before .before .before .plan-long) .ensures) ∙ (c .before .before .if1) .taken) (sym ((c .before .all-long) .ensures) ∙ (c .if2) .left)
-
-returns-4 : tie.Need-returns-4
-returns-4 c =
-    let a = c .before .before .args in
-    odd-plan (a .n) (a .k) (a .ka) (a .cells) (a .near) (a .alpha) (a .round ∷ a .places ∷ a .queue ∷ a .flags ∷ a .scratch ∷ a .more ∷ []) (a .words) (sym ((c .before .plan-long) .ensures) ∙ (c .if1) .left)
+    let a = c .before .before .before .args in
+    let long-number = c .before .before .long-number in
+    let room-number = c .before .room-number in
+    let first-number = c .first-number in
+    first-fails (a .n) (a .k) (a .ka) (a .cells) (a .near) (a .alpha) (a .round ∷ a .places ∷ a .queue ∷ a .flags ∷ a .scratch ∷ a .more ∷ []) (a .words) (long-number .result) (room-number .result) (first-number .result) (long-number .ensures) (room-number .ensures) (first-number .ensures)
 
 pub lengths-number-spec : {M : Type 1} → statement M
 lengths-number-spec =
-    tie.close (tie.spec plan-long-requires all-long-requires returns returns-2 returns-3 returns-4)
+    tie.close (tie.spec long-number-requires room-number-requires first-number-requires returns)

@@ -1,0 +1,4 @@
+pub mod NoteLaws
+pub mod OnLaws
+pub mod SideLaws
+pub mod WalkLaws

@@ -1,0 +1,5 @@
+pub mod ClosingLaws
+pub mod FromLaws
+pub mod GrowLaws
+pub mod LevelLaws
+pub mod NextLaws

@@ -1,0 +1,3 @@
+pub mod FifthLaws
+pub mod MayLaws
+pub mod SeekLaws
