@@ -8,6 +8,13 @@ use crate::checks;
 use crate::lent::{Answer, ENTRY, Lent, State};
 use crate::tsp::{Budget, DistMatrix, nearest_neighbor_tour};
 
+/// A single move: a flip of t1, t2, t3, an exchange of segments between three legs, the first move that gains from t1.
+pub enum Single {
+    Flip([usize; 3]),
+    OrMove(bool, [(usize, usize); 3]),
+    Improve(bool, usize),
+}
+
 /// Loads a start round: the queue and the journal are empty, the time is its recount.
 pub fn load(lent: &mut Lent, start: &[u32]) -> Answer {
     let number = checks::load(lent, start);
@@ -113,6 +120,38 @@ pub fn search(lent: &mut Lent, step: u32, kind: u32, stop: bool, budget: u32) ->
         units,
         kicks,
         ended: u8::from(units == budget),
+        ..Answer::default()
+    }
+}
+
+/// One of the source's moves by itself; the queue keeps its head, and the time is the recount of the round it leaves.
+pub fn single(lent: &mut Lent, step: Single) -> Answer {
+    let number = checks::settle(lent);
+    if number != 0 {
+        return Answer::refused(number);
+    }
+    let (dists, nn) = plan(lent);
+    let mut opt = opt_of(lent, &dists, &nn);
+    let gain = match step {
+        Single::Flip([t1, t2, t3]) => {
+            opt.flip(t1, t2, t3);
+            0
+        }
+        Single::OrMove(true, edges) => {
+            opt.or_move::<true>(edges);
+            0
+        }
+        Single::OrMove(false, edges) => {
+            opt.or_move::<false>(edges);
+            0
+        }
+        Single::Improve(true, t1) => opt.improve::<true>(t1),
+        Single::Improve(false, t1) => opt.improve::<false>(t1),
+    };
+    let State { head, held, .. } = lent.state;
+    give_back(lent, &opt, head, held, cost(&dists, &opt.tour));
+    Answer {
+        gain,
         ..Answer::default()
     }
 }

@@ -2,8 +2,8 @@
 
 use crate::chance::Chance;
 use crate::generate::{Out, Ranges};
-use crate::sheet::{Fields, HEADER, answer_length};
-use crate::{shapes, to_hex};
+use crate::shapes;
+use crate::sheet::{Fields, HEADER, answer_length, to_hex};
 
 /// A valid sheet with room for its answer, or more.
 pub fn valid(

@@ -75,7 +75,7 @@ fn sheets(line: &str) -> Result<Option<String>, String> {
         }
         Err(number) => number,
     };
-    Ok(Some(format!("{number} {}", to_hex(&lent))))
+    Ok(Some(format!("{number} {}", sheet::to_hex(&lent))))
 }
 
 /// A line of a call script; a separator starts anew.
@@ -99,7 +99,11 @@ fn each_line(
     for (i, line) in io::stdin().lock().lines().enumerate() {
         let line = line.map_err(|error| error.to_string())?;
         match answer(&line) {
-            Ok(Some(text)) => print(out, &text)?,
+            // At once, so that what is shown can decide the next line.
+            Ok(Some(text)) => {
+                print(out, &text)?;
+                out.flush().map_err(|error| error.to_string())?
+            }
             Ok(None) => {}
             Err(message) => return Err(format!("line {}: {message}", i + 1)),
         }
@@ -109,14 +113,6 @@ fn each_line(
 
 fn print(out: &mut impl Write, line: &str) -> Result<(), String> {
     writeln!(out, "{line}").map_err(|error| error.to_string())
-}
-
-/// Bytes as hex digits; no bytes are a hyphen.
-pub fn to_hex(bytes: &[u8]) -> String {
-    if bytes.is_empty() {
-        return "-".to_string();
-    }
-    bytes.iter().map(|byte| format!("{byte:02x}")).collect()
 }
 
 fn from_hex(hex: &str) -> Result<Vec<u8>, String> {

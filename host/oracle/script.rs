@@ -4,7 +4,7 @@ use std::fmt::{Display, Write};
 use std::str::FromStr;
 
 use crate::lent::{Answer, ENTRY, Lent, State};
-use crate::tsp::local_search::calls;
+use crate::tsp::local_search::calls::{self, Single};
 
 /// More words than any script needs; a longer slice is taken for a slip of the pen.
 const MOST_WORDS: usize = 1 << 26;
@@ -111,6 +111,21 @@ impl Session {
             "undo" => {
                 let [] = exactly(rest)?;
                 calls::undo(lent)
+            }
+            "flip" => {
+                let [t1, t2, t3] = stops(lent, exactly(rest)?)?;
+                calls::single(lent, Single::Flip([t1, t2, t3]))
+            }
+            "or_move" => {
+                let [way, legs @ ..] = exactly::<7>(rest)?;
+                let [a, b, c, d, e, f] = stops(lent, legs)?;
+                let legs = [(a, b), (c, d), (e, f)];
+                calls::single(lent, Single::OrMove(forward(way)?, legs))
+            }
+            "improve" => {
+                let [way, t1] = exactly(rest)?;
+                let [t1] = stops(lent, [t1])?;
+                calls::single(lent, Single::Improve(forward(way)?, t1))
             }
             "search" => {
                 let [step, kind, stop, budget] = exactly(rest)?;
@@ -287,6 +302,27 @@ fn size(word: &str) -> Result<usize, String> {
     match number(word)? {
         length if length <= MOST_WORDS => Ok(length),
         length => Err(format!("a length of {length} words is too much")),
+    }
+}
+
+/// Stops of a round.
+fn stops<const COUNT: usize>(lent: &Lent, words: [&str; COUNT]) -> Result<[usize; COUNT], String> {
+    let mut found = [0; COUNT];
+    for (stop, word) in found.iter_mut().zip(words) {
+        *stop = number(word)?;
+        if *stop >= lent.n {
+            return Err(format!("{word} is no stop"));
+        }
+    }
+    Ok(found)
+}
+
+/// The direction of a move.
+fn forward(word: &str) -> Result<bool, String> {
+    match word {
+        "forward" => Ok(true),
+        "backward" => Ok(false),
+        _ => Err(format!("a move goes forward or backward, not {word}")),
     }
 }
 

@@ -107,12 +107,12 @@ fn points(chance: &mut Chance, shape: Shape, n: usize) -> Vec<(f64, f64)> {
 /// A near list of k per stop: ascending, its nearest shuffled, or any stops with repeats.
 pub fn near(chance: &mut Chance, matrix: &[u16], n: usize, k: usize) -> Vec<u32> {
     let order = chance.below(4);
+    if order == 0 {
+        return any_list(chance, n, k);
+    }
     let mut list = Vec::with_capacity(n * k);
     for stop in 0..n {
-        let mut entries = match order {
-            0 => any(chance, n, stop, k),
-            _ => nearest(matrix, n, stop, k),
-        };
+        let mut entries = nearest(matrix, n, stop, k);
         if order == 1 {
             chance.shuffle(&mut entries);
         }
@@ -123,17 +123,12 @@ pub fn near(chance: &mut Chance, matrix: &[u16], n: usize, k: usize) -> Vec<u32>
 
 /// An alpha list of ka per stop: the nearest, or any stops with repeats.
 pub fn alpha(chance: &mut Chance, matrix: &[u16], n: usize, ka: usize) -> Vec<u32> {
-    let by_nearest = chance.one_in(2);
-    let mut list = Vec::with_capacity(n * ka);
-    for stop in 0..n {
-        let mut entries = if by_nearest {
-            nearest(matrix, n, stop, ka)
-        } else {
-            any(chance, n, stop, ka)
-        };
-        list.append(&mut entries);
+    if !chance.one_in(2) {
+        return any_list(chance, n, ka);
     }
-    list
+    (0..n)
+        .flat_map(|stop| nearest(matrix, n, stop, ka))
+        .collect()
 }
 
 /// The nearest others, ascending; where there are too few, the last is repeated.
@@ -143,6 +138,11 @@ fn nearest(matrix: &[u16], n: usize, stop: usize, count: usize) -> Vec<u32> {
     (0..count)
         .map(|i| others[i.min(others.len() - 1)] as u32)
         .collect()
+}
+
+/// A list of any stops, `each` per stop.
+pub fn any_list(chance: &mut Chance, n: usize, each: usize) -> Vec<u32> {
+    (0..n).flat_map(|stop| any(chance, n, stop, each)).collect()
 }
 
 /// Any others, repeats allowed.

@@ -181,3 +181,11 @@ impl<'a> Reader<'a> {
         (rest.at..8 * rest.bytes.len()).all(|_| rest.take(1) == 0)
     }
 }
+
+/// Bytes as hex digits; no bytes are a hyphen.
+pub fn to_hex(bytes: &[u8]) -> String {
+    if bytes.is_empty() {
+        return "-".to_string();
+    }
+    bytes.iter().map(|byte| format!("{byte:02x}")).collect()
+}

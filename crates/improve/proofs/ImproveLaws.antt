@@ -23,7 +23,7 @@ gainOf : Pick → Time
 gainOf (pick c g t3 t4 t5 t6) = g
 
 -- a chosen move carried out
-carried : Bool → Stop → Stop → Track → Pick → Found
+unfoldable pub carried : Bool → Stop → Stop → Track → Pick → Found
 carried fwd t1 t2 t (pick c g t3 t4 t5 t6) = record { gain = g; track = seq3 fwd (caseOf c) t1 t2 t3 t4 t5 t6 t; touched = endsOf (trialOf c t3 t4 t5 t6) }
 
 case-number : (c : Case) → caseOf (numberOf c) ≡ c
@@ -38,7 +38,7 @@ unfolding endsOf trialOf
 ends-number x = rw (case-number x.case)
 
 module _ (d : Legs) (fwd : Bool) (t1 t2 : Stop) (t : Track) where
-  closing-none : (xs : List Trial) (c : ℕ) (g : Time) (t3 t4 t5 t6 : Stop) → pick c g t3 t4 t5 t6 ≡ firstOf d t1 xs → g ≤ 0 → firstClosing d fwd t1 t2 t xs ≡ nothing t
+  pub closing-none : (xs : List Trial) (c : ℕ) (g : Time) (t3 t4 t5 t6 : Stop) → pick c g t3 t4 t5 t6 ≡ firstOf d t1 xs → g ≤ 0 → firstClosing d fwd t1 t2 t xs ≡ nothing t
   unfolding firstClosing firstOf gainOf
   closing-none [] c g t3 t4 t5 t6 e h = refl
   closing-none (x ∷ xs) c g t3 t4 t5 t6 e h =
@@ -55,7 +55,7 @@ module _ (d : Legs) (fwd : Bool) (t1 t2 : Stop) (t : Track) where
   unfolding carried
   same-carried x i = record { gain = x.partial - d x.t6 t1; track = seq3 fwd (case-number x.case i) t1 t2 x.t3 x.t4 x.t5 x.t6 t; touched = ends-number x i }
 
-  closing-some : (xs : List Trial) (c : ℕ) (g : Time) (t3 t4 t5 t6 : Stop) → pick c g t3 t4 t5 t6 ≡ firstOf d t1 xs → 0 < g → firstClosing d fwd t1 t2 t xs ≡ carried fwd t1 t2 t (pick c g t3 t4 t5 t6)
+  pub closing-some : (xs : List Trial) (c : ℕ) (g : Time) (t3 t4 t5 t6 : Stop) → pick c g t3 t4 t5 t6 ≡ firstOf d t1 xs → 0 < g → firstClosing d fwd t1 t2 t xs ≡ carried fwd t1 t2 t (pick c g t3 t4 t5 t6)
   unfolding firstClosing firstOf none gainOf
   closing-some [] c g t3 t4 t5 t6 e h = let z : g ≡ 0 = ap gainOf e in absurd (omega arith)
   closing-some (x ∷ xs) c g t3 t4 t5 t6 e h =

@@ -1,4 +1,5 @@
 pub mod AcceptLaws
+pub mod BitLaws
 pub mod BoundLaws
 pub mod CellLaws
 pub mod CheckLaws
@@ -23,10 +24,12 @@ pub mod KickedLaws
 pub mod LandLaws
 pub mod LeavesLaws
 pub mod LeftLaws
+pub mod Lk3FromLaws
 pub mod Lk3Laws
 pub mod LkLaws
 pub mod Lone3Laws
 pub mod LoneLaws
+pub mod MatrixLaws
 pub mod MoveWayLaws
 pub mod NearestLaws
 pub mod NewerLaws
@@ -46,6 +49,7 @@ pub mod SearchLaws
 pub mod SearchTimeLaws
 pub mod SegmentLaws
 pub mod SetLaws
+pub mod SheetLaws
 pub mod SinceLaws
 pub mod SkipLaws
 pub mod SpanLaws
@@ -64,6 +68,7 @@ pub mod TiedLaws
 pub mod TimeLaws
 pub mod TrialLaws
 pub mod TrialStopLaws
+pub mod TriangleLaws
 pub mod TurnLaws
 pub mod VerdictLaws
 pub mod WaitLaws

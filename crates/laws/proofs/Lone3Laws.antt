@@ -1,7 +1,7 @@
 -- 01, 9, "for LK3 1, 1, then 1": a level of `lk3_level` closes, or tries one continuation, the best, or gives up.
-use Prim.Native.Nat.{_+_, _-_, _<_, _≤_, suc, zero, ℕ}
+use Prim.Native.Nat.{_-_, _<_, suc, zero, ℕ}
 use mathlib.Core.Path.{_∙_, _≡_, ap, refl, sym}
-use mathlib.Core.Bool.{Bool, false, true}
+use mathlib.Core.Bool.{Bool}
 use mathlib.Core.List.{List, [], _∷_, _++_}
 use native.Mathlib.Omega.{arith}
 use lib.Dec.{eqb}
@@ -94,3 +94,32 @@ module _ (p : Plan) (t1 : Stop) (levels : ℕ) (s : Step) (t2 : Stop) (g : Time)
 
         pub level3-fails : level3 p t1 levels (moved3 fwd t1 t2 s x) x.t6 x.partial .gain ≡ 0 → level3 p t1 (suc levels) s t2 g ≡ nothing s.track
         level3-fails h = on ∙ lone3 fwd t1 t2 s (level3 p t1 levels) x h
+
+-- more stops queued change no gain, and nothing where there is none
+pub touching-gain : (vs : List Stop) (f : Found) → touching vs f .gain ≡ f.gain
+unfolding touching
+touching-gain vs f = by-gain (λ (z : Found). z.gain ≡ f.gain) f.gain {x = f} {y = λ g. record { gain = suc g; track = f.track; touched = vs ++ f.touched }} (λ e. refl) (λ g e. sym e)
+
+pub touching-none : (vs : List Stop) (f : Found) (t : Track) → f ≡ nothing t → touching vs f ≡ nothing t
+unfolding touching nothing
+touching-none vs f t e = rw e
+
+-- ---- a level that gains nothing leaves the track as it was
+module _ (p : Plan) (t1 : Stop) where
+  each-none : (fwd : Bool) (t2 : Stop) (s : Step) (deeper : Step → Stop → Time → Found) (xs : List Trial) → tryEach3 fwd t1 t2 s deeper xs .gain ≡ 0 → tryEach3 fwd t1 t2 s deeper xs ≡ nothing s.track
+  unfolding tryEach3
+  each-none fwd t2 s deeper [] e = refl
+  each-none fwd t2 s deeper (x ∷ xs) e =
+      let f = deeper (moved3 fwd t1 t2 s x) x.t6 x.partial in
+      by-gain (λ (z : Found). z.gain ≡ 0 → z ≡ nothing s.track) f.gain {x = tryEach3 fwd t1 t2 s deeper xs} {y = λ g. f} (λ q. each-none fwd t2 s deeper xs) (λ g q z. absurd (omega arith)) e
+
+  pub level3-none : (levels : ℕ) (s : Step) (t2 : Stop) (g : Time) → level3 p t1 levels s t2 g .gain ≡ 0 → level3 p t1 levels s t2 g ≡ nothing s.track
+  unfolding level3
+  level3-none zero s t2 g e = refl
+  level3-none (suc levels) s t2 g e =
+      let fwd = eqb (succ s.track.round t1) t2 in
+      let tried = trials (legOf p) (legOf p) (alphaOf p) keep fwd s.track.round t1 t2 g in
+      let f = firstClosing (legOf p) fwd t1 t2 s.track tried in
+      let xs = (if eqb levels 0 then [] else best (breadth3 (49 - levels)) [] (keep (mayGoOn p s t2) tried)) in
+      by-gain (λ (z : Found). z.gain ≡ 0 → z ≡ nothing s.track) f.gain {x = tryEach3 fwd t1 t2 s (level3 p t1 levels) xs} {y = λ k. touching s.stops f}
+      (λ q. each-none fwd t2 s (level3 p t1 levels) xs) (λ k q z. absurd (omega (arith, touching-gain s.stops f))) e

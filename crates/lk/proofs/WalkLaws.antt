@@ -31,7 +31,8 @@ use Rattle.lk_state.specs.States.{stepOf, Roomy, Begun}
 use Rattle.lk_state.specs.declared.LkState.{LkState}
 use Rattle.lk_state.proofs.StackLaws.{stepping-less}
 use Rattle.lk_scans.specs.Picked.{stepIn, contsIn, contIs, shown, Picked, Fine}
-use Rattle.lk.specs.Walks.{led, stepAt, bestAt, Noted, Closed, Leveled, Walked}
+use Rattle.lk.specs.Walks.{led, stepAt, bestAt, Closed, Leveled, Walked}
+use Rattle.lk.proofs.NoteLaws.{Noted}
 use Rattle.lk.proofs.OnLaws.{onward, onward-none, onward-some, level-on}
 
 held-length : (r : Round) (j : List ℕ) (h : ℕ) → length (trackOf r j h .journal) ≡ h

@@ -2,10 +2,9 @@
 use Prim.Native.Nat.{ℕ, zero, suc, _+_, _-_, _*_, _≤_, _<_}
 use mathlib.Core.Path.{_≡_}
 use mathlib.Core.Bool.{true}
-use mathlib.Core.List.{List, [], _∷_, _++_}
+use mathlib.Core.List.{List, [], _∷_}
 use lib.ListN.{length}
 use Rattle.rules.specs.Words.{Stop, Place, Time, Round}
-use Rattle.rules.specs.Ring.{leg}
 use Rattle.rules.specs.Journal.{Track, trackOf, rollback, goodJournal}
 use Rattle.rules.specs.Plan.{Plan, legOf}
 use Rattle.rules.specs.Improve.{Trial, Found, nothing}
@@ -14,7 +13,6 @@ use Rattle.rules.specs.Lk.{Best, better, flipped, deepen}
 use Rattle.rules.specs.Contracts.{Tied}
 use Rattle.journal.specs.Journalled.{Grew}
 use Rattle.lk_state.specs.Stacks.{legsIn, stopsIn, Stepping}
-use Rattle.lk_state.specs.States.{Roomy}
 use Rattle.lk_state.specs.declared.LkState.{LkState}
 use Rattle.lk_scans.specs.Picked.{shown, contIs, Fine}
 
@@ -36,17 +34,6 @@ stepAt st len t = record { track = t; stops = stopsIn (st .steps) len; added = l
 -- the best closed gain after `len` moves, to which a mark in the journal leads back
 unfoldable pub bestAt : LkState → Time → ℕ → ℕ → Track → Best
 bestAt st gain len mark t = record { gain = gain; step = stepAt st len (rollback mark t) }
-
--- a move more in a state of `len` moves
-pub record Noted (st : LkState) (len : ℕ) (t2 t3 t4 : Stop) (st′ : LkState) : Type 0 where
-  pub room : Roomy st′
-  pub stops-old : (i : ℕ) → i ≤ len → stopsIn (st′ .steps) i ≡ stopsIn (st .steps) i
-  pub added-old : (i : ℕ) → i ≤ len → legsIn (st′ .added) i ≡ legsIn (st .added) i
-  pub removed-old : (i : ℕ) → i ≤ len + 1 → legsIn (st′ .removed) i ≡ legsIn (st .removed) i
-  pub stops-new : stopsIn (st′ .steps) (len + 1) ≡ stopsIn (st .steps) len ++ (t3 ∷ t4 ∷ [])
-  pub added-new : legsIn (st′ .added) (len + 1) ≡ leg t2 t3 ∷ legsIn (st .added) len
-  pub removed-new : legsIn (st′ .removed) (len + 2) ≡ leg t3 t4 ∷ legsIn (st .removed) (len + 1)
-  pub below : (n : ℕ) → t3 < n → t4 < n → Stepping (st .steps) len n → Stepping (st′ .steps) (len + 1) n
 
 -- the mark kept: the new one where it closes with a greater gain, else the old
 pub record Closed (gain : Time) (len held : ℕ) (partial closing : Time) (level mark : ℕ) (gain′ : Time) (len′ held′ : ℕ) : Type 0 where

@@ -13,9 +13,8 @@ ghost use Rattle.queue.specs.Lines.{InLine, Waits};
 ghost use Rattle.scans.specs.Scans.{Ready};
 ghost use Rattle.improve.specs.Steps.{planOf, Stepped};
 ghost use Rattle.lk_state.specs.Stacks.{legsIn, stopsIn, Stepping};
-ghost use Rattle.lk_state.specs.States.{Roomy};
 ghost use Rattle.lk_scans.specs.Picked.{contsIn, trialIn, Fine};
-ghost use Rattle.lk.specs.Walks.{led, foundOf, Noted, Closed, Leveled, Walked};
+ghost use Rattle.lk.specs.Walks.{led, foundOf, Closed, Leveled, Walked};
 use improve::Gained;
 use improve::push_two;
 use journal::rollback;
@@ -26,7 +25,6 @@ use lk_scans::lk_breadth;
 use lk_scans::lk_first;
 use lk_scans::lk_next;
 use lk_scans::pick_at;
-use lk_state::LkState;
 use lk_state::leg_word;
 use lk_state::lk_new;
 use lk_state::push_steps;
@@ -46,26 +44,6 @@ pub struct Walk {
     pub steps: [u32; 100],
     pub mark: Mark,
     pub held: usize,
-}
-
-// A move more in a state of `level` moves: the leg t2-t3 comes, t3-t4 goes.
-fn note_move(mut st: LkState, level: usize, t2: Stop, t3: Stop, t4: Stop) -> LkState
-    requires { ⌜ Roomy st ⌝ }
-    requires { ⌜ level < 25 ⌝ }
-    requires { ⌜ t2 .0 < 4096 ⌝ }
-    requires { ⌜ t3 .0 < 4096 ⌝ }
-    requires { ⌜ t4 .0 < 4096 ⌝ }
-    ensures { λ r. ⌜ Noted st level (t2 .0) (t3 .0) (t4 .0) r ⌝ }
-{
-    let come = leg_word(t2, t3);
-    let gone = leg_word(t3, t4);
-    st.steps[level] = t3.0 * 4096 + t4.0;
-    st.steps_len = level + 1;
-    st.added[level] = come;
-    st.added_len = level + 1;
-    st.removed[level + 1] = gone;
-    st.removed_len = level + 2;
-    st
 }
 
 // The better of the mark so far and of closing now.
@@ -162,7 +140,14 @@ pub fn lk_walk(
     let mut level: usize = 0;
     while 0 < p.partial {
         h = flip(round, places, journal, h, t1, end, p.t3);
-        st = note_move(st, level, end, p.t3, p.t4);
+        let come = leg_word(end, p.t3);
+        let gone = leg_word(p.t3, p.t4);
+        st.steps[level] = p.t3.0 * 4096 + p.t4.0;
+        st.steps_len = level + 1;
+        st.added[level] = come;
+        st.added_len = level + 1;
+        st.removed[level + 1] = gone;
+        st.removed_len = level + 2;
         let closing = dist(matrix, n, p.t4, t1);
         level = level + 1;
         best = better_of(best, p.partial, closing, level, h);

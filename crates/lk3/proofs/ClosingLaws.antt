@@ -1,30 +1,30 @@
 -- 01, 9: what a level's scan finds decides what the level does.
-use Prim.Native.Nat.{ℕ, zero, suc, _+_, _-_, _≤_, _<_}
+use Prim.Native.Nat.{ℕ, zero, suc, _<_}
 use mathlib.Core.Path.{_≡_, refl, sym, ap, _∙_, subst}
 use mathlib.Core.Bool.{Bool, true, false}
 use mathlib.Core.List.{List, [], _∷_, _++_}
 use mathlib.Core.Logic.{_≢_, inl, inr}
 use lib.ListN.{length, getD}
 use native.Mathlib.Omega.{arith}
-use lib.Dec.{ltb, eqb}
-use Rattle.rules.specs.Words.{Stop, Time, Legs}
-use Rattle.rules.specs.Lists.{if_then_else_, keep}
-use Rattle.rules.specs.Journal.{Track}
-use Rattle.rules.specs.Moves.{Case, two, flips, segment, inner, seq3}
+use lib.Dec.{eqb}
+use Rattle.rules.specs.Words.{Stop, Time}
+use Rattle.rules.specs.Lists.{keep}
+use Rattle.rules.specs.Moves.{two, seq3}
 use Rattle.rules.specs.Plan.{Plan, legOf, nearOf, alphaOf}
 use Rattle.rules.specs.Ring.{Leg, succ}
-use Rattle.rules.specs.Improve.{Trial, Found, endsOf, firstClosing, nothing, touching, trials}
+use Rattle.rules.specs.Improve.{Trial, endsOf, firstClosing, nothing}
 use Rattle.rules.specs.Step.{Step, best}
-use Rattle.rules.specs.Lk3.{breadth3, level3, mayGoOn, mayMove, moved3, tryEach3}
-use Rattle.laws.proofs.ChoiceLaws.{either, either-if, by-gain, true-false}
+use Rattle.rules.specs.Lk3.{breadth3, level3, mayGoOn, mayMove, moved3}
+use Rattle.laws.proofs.ChoiceLaws.{either, either-if, true-false}
 use Rattle.laws.proofs.EveryLaws.{All, none, more}
 use Rattle.laws.proofs.StepLaws.{all-best}
 use Rattle.laws.proofs.Lone3Laws.{tried3, level3-closes, level3-last, level3-off, level3-gains, level3-fails}
-use Rattle.moves.specs.Moves.{numberOf, caseOf}
-use Rattle.tries.specs.Picks.{Pick, pick, none as noPick}
+use Rattle.moves.specs.Moves.{caseOf}
+use Rattle.tries.specs.Picks.{pick, none as noPick}
 use Rattle.improve.specs.Steps.{trialOf}
-use Rattle.seeks.specs.Seeks.{Sought, sought, gainOf, betterOf, seekOf, mayIn, moveTrial}
-use Rattle.seeks.proofs.SeekLaws.{isClosed, moveOf, seek-gains}
+use Rattle.improve.proofs.ImproveLaws.{carried, closing-none, closing-some}
+use Rattle.seeks.specs.Seeks.{Sought, sought, gainOf, mayIn, moveTrial}
+use Rattle.seeks.proofs.SeekLaws.{seek-first, seek-gains, seek-none}
 use Rattle.seeks.proofs.MayLaws.{seek-off, seek-on, may-rich, may-two}
 use Rattle.scans3.specs.Scans.{scanOf}
 
@@ -34,71 +34,6 @@ unfolding breadth3
 breadth-read zero h = refl
 breadth-read (suc zero) h = refl
 breadth-read (suc (suc level)) h = absurd (omega arith)
-
--- more stops queued change no gain
-pub touching-gain : (vs : List Stop) (f : Found) → touching vs f .gain ≡ f.gain
-unfolding touching
-touching-gain vs f = by-gain (λ (z : Found). z.gain ≡ f.gain) f.gain {x = f} {y = λ g. record { gain = suc g; track = f.track; touched = vs ++ f.touched }} (λ e. refl) (λ g e. sym e)
-
--- ---- a level that gains nothing leaves the track as it was
-module _ (p : Plan) (t1 : Stop) where
-  each-none : (fwd : Bool) (t2 : Stop) (s : Step) (deeper : Step → Stop → Time → Found) (xs : List Trial) → tryEach3 fwd t1 t2 s deeper xs .gain ≡ 0 → tryEach3 fwd t1 t2 s deeper xs ≡ nothing s.track
-  unfolding tryEach3
-  each-none fwd t2 s deeper [] e = refl
-  each-none fwd t2 s deeper (x ∷ xs) e =
-      let f = deeper (moved3 fwd t1 t2 s x) x.t6 x.partial in
-      by-gain (λ (z : Found). z.gain ≡ 0 → z ≡ nothing s.track) f.gain {x = tryEach3 fwd t1 t2 s deeper xs} {y = λ g. f} (λ q. each-none fwd t2 s deeper xs) (λ g q z. absurd (omega arith)) e
-
-  pub level3-none : (levels : ℕ) (s : Step) (t2 : Stop) (g : Time) → level3 p t1 levels s t2 g .gain ≡ 0 → level3 p t1 levels s t2 g ≡ nothing s.track
-  unfolding level3
-  level3-none zero s t2 g e = refl
-  level3-none (suc levels) s t2 g e =
-      let fwd = eqb (succ s.track.round t1) t2 in
-      let tried = trials (legOf p) (legOf p) (alphaOf p) keep fwd s.track.round t1 t2 g in
-      let f = firstClosing (legOf p) fwd t1 t2 s.track tried in
-      let xs = (if eqb levels 0 then [] else best (breadth3 (49 - levels)) [] (keep (mayGoOn p s t2) tried)) in
-      by-gain (λ (z : Found). z.gain ≡ 0 → z ≡ nothing s.track) f.gain {x = tryEach3 fwd t1 t2 s (level3 p t1 levels) xs} {y = λ k. touching s.stops f}
-      (λ q. each-none fwd t2 s (level3 p t1 levels) xs) (λ k q z. absurd (omega (arith, touching-gain s.stops f))) e
-
--- ---- the scan's find
-case-number : (c : Case) → caseOf (numberOf c) ≡ c
-unfolding caseOf numberOf
-case-number two = refl
-case-number flips = refl
-case-number segment = refl
-case-number inner = refl
-
--- a pick carried out
-unfoldable carried : Bool → Stop → Stop → Track → Pick → Found
-carried fwd t1 t2 t (pick c g t3 t4 t5 t6) = record { gain = g; track = seq3 fwd (caseOf c) t1 t2 t3 t4 t5 t6 t; touched = endsOf (trialOf c t3 t4 t5 t6) }
-
-ends-number : (x : Trial) → endsOf (trialOf (numberOf x.case) x.t3 x.t4 x.t5 x.t6) ≡ endsOf x
-unfolding endsOf trialOf
-ends-number x = rw (case-number x.case)
-
-module _ (d : Legs) (fwd : Bool) (t1 t2 : Stop) (t : Track) (may : Trial → Bool) where
-  same-carried : (x : Trial) → carried fwd t1 t2 t (pick (numberOf x.case) (x.partial - d x.t6 t1) x.t3 x.t4 x.t5 x.t6)
-      ≡ record { gain = x.partial - d x.t6 t1; track = seq3 fwd x.case t1 t2 x.t3 x.t4 x.t5 x.t6 t; touched = endsOf x }
-  unfolding carried
-  same-carried x i = record { gain = x.partial - d x.t6 t1; track = seq3 fwd (case-number x.case i) t1 t2 x.t3 x.t4 x.t5 x.t6 t; touched = ends-number x i }
-
-  closing-some : (xs : List Trial) (so p : Pick) → sought true p ≡ seekOf d t1 may so xs → firstClosing d fwd t1 t2 t xs ≡ carried fwd t1 t2 t p
-  unfolding seekOf firstClosing isClosed moveOf
-  closing-some [] so p e = absurd (true-false (ap isClosed e))
-  closing-some (x ∷ xs) so p e =
-      either-if (λ (w : Sought). sought true p ≡ w → firstClosing d fwd t1 t2 t (x ∷ xs) ≡ carried fwd t1 t2 t p) (ltb (d x.t6 t1) x.partial)
-      (λ y f. rw (firstClosing, y) (sym (ap (λ (w : Sought). carried fwd t1 t2 t (moveOf w)) f ∙ same-carried x)))
-      (λ y f. rw (firstClosing, y) (closing-some xs (betterOf may so x) p f))
-      e
-
-  closing-none : (xs : List Trial) (so p : Pick) → sought false p ≡ seekOf d t1 may so xs → firstClosing d fwd t1 t2 t xs ≡ nothing t
-  unfolding seekOf firstClosing isClosed
-  closing-none [] so p e = refl
-  closing-none (x ∷ xs) so p e =
-      either-if (λ (w : Sought). sought false p ≡ w → firstClosing d fwd t1 t2 t (x ∷ xs) ≡ nothing t) (ltb (d x.t6 t1) x.partial)
-      (λ y f. absurd (true-false (sym (ap isClosed f))))
-      (λ y f. rw (firstClosing, y) (closing-none xs (betterOf may so x) p f))
-      e
 
 -- ---- what may be gone on with: all that the rule says where another level is left, else nothing
 may-step : (p : Plan) (s : Step) (t2 : Stop) (deeper : Bool) → deeper ≡ true → (xs : List Trial) → keep (mayIn p.n p.matrix p.k p.near s.added s.removed deeper t2) xs ≡ keep (mayGoOn p s t2) xs
@@ -131,7 +66,7 @@ module _ (p : Plan) (t1 : Stop) (levels : ℕ) (s : Step) (t2 : Stop) (g : Time)
   level-closes e =
       let may : Trial → Bool = mayIn p.n p.matrix p.k p.near s.added s.removed deeper t2 in
       level3-closes p t1 levels s t2 g fwd way (carried fwd t1 t2 s.track (pick c w t3 t4 t5 t6))
-      (closing-some (legOf p) fwd t1 t2 s.track may (tried3 p t1 levels s t2 g fwd) noPick (pick c w t3 t4 t5 t6) e)
+      (closing-some (legOf p) fwd t1 t2 s.track (tried3 p t1 levels s t2 g fwd) c w t3 t4 t5 t6 (seek-first (legOf p) t1 may (tried3 p t1 levels s t2 g fwd) noPick (pick c w t3 t4 t5 t6) e) (seek-gains (legOf p) t1 may (tried3 p t1 levels s t2 g fwd) noPick (pick c w t3 t4 t5 t6) e))
       (seek-gains (legOf p) t1 may (tried3 p t1 levels s t2 g fwd) noPick (pick c w t3 t4 t5 t6) e)
 
   pub level-gain : sought true (pick c w t3 t4 t5 t6) ≡ wanted → 0 < w
@@ -140,8 +75,8 @@ module _ (p : Plan) (t1 : Stop) (levels : ℕ) (s : Step) (t2 : Stop) (g : Time)
 
   module _ (e : sought false (pick c w t3 t4 t5 t6) ≡ wanted) where
     unclosed : firstClosing (legOf p) fwd t1 t2 s.track (tried3 p t1 levels s t2 g fwd) ≡ nothing s.track
-    unfolding scanOf tried3 legOf alphaOf
-    unclosed = closing-none (legOf p) fwd t1 t2 s.track (mayIn p.n p.matrix p.k p.near s.added s.removed deeper t2) (tried3 p t1 levels s t2 g fwd) noPick (pick c w t3 t4 t5 t6) e
+    unfolding scanOf tried3 legOf alphaOf noPick
+    unclosed = closing-none (legOf p) fwd t1 t2 s.track (tried3 p t1 levels s t2 g fwd) 0 0 0 0 0 0 (seek-none (legOf p) t1 (mayIn p.n p.matrix p.k p.near s.added s.removed deeper t2) (tried3 p t1 levels s t2 g fwd) noPick (pick c w t3 t4 t5 t6) e) (omega arith)
 
     -- none that may be gone on with
     pub level-off : (deeper ≡ false → levels ≡ 0) → c ≡ 0 → level3 p t1 (suc levels) s t2 g ≡ nothing s.track

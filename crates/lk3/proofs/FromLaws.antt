@@ -1,32 +1,27 @@
 -- The step from t1: its first level, and the two sides of t1.
-use Prim.Native.Nat.{ℕ, zero, suc, _+_, _*_, _≤_, _<_}
-use mathlib.Core.Path.{_≡_, refl, sym, ap, _∙_}
-use mathlib.Core.Bool.{Bool, true, false}
+use Prim.Native.Nat.{ℕ, _<_}
+use mathlib.Core.Path.{_≡_, sym, ap, _∙_}
+use mathlib.Core.Bool.{Bool}
 use mathlib.Core.List.{List, [], _∷_}
 use native.Mathlib.Omega.{arith}
-use borrow.Author.Tests.{lt-ltb, le-ltb}
 use lib.ListN.{length}
 use Rattle.rules.specs.Words.{Stop, Place, Time, Round}
 use Rattle.rules.specs.Ring.{ahead}
-use Rattle.rules.specs.Journal.{Track, trackOf, entriesOf}
+use Rattle.rules.specs.Journal.{Track, trackOf}
 use Rattle.rules.specs.Plan.{Plan, legOf}
-use Rattle.rules.specs.Queue.{pushAll, waiting}
-use Rattle.rules.specs.Improve.{Found, nothing, orElse, touching}
+use Rattle.rules.specs.Queue.{pushAll}
+use Rattle.rules.specs.Improve.{Found, nothing, touching}
 use Rattle.rules.specs.Step.{begin}
-use Rattle.rules.specs.Lk3.{level3, lk3Side, lk3From}
-use Rattle.laws.proofs.ChoiceLaws.{by-gain}
+use Rattle.rules.specs.Lk3.{level3, lk3Side}
 use Rattle.laws.proofs.JournalLaws.{entriesOf-length}
 use Rattle.journal.specs.Journalled.{Journalled}
 use Rattle.journal.proofs.GrewLaws.{grew-grew}
 use Rattle.improve.specs.Steps.{Stepped}
 use Rattle.improve.proofs.StepLaws.{pushed}
 use Rattle.lk_state.specs.declared.LkState.{LkState}
-use Rattle.lk_state.specs.Stacks.{Stepping}
 use Rattle.lk_state.specs.States.{stepOf, Begun}
 use Rattle.lk3.specs.Levels.{Stacked, Step3, foundAt}
 use Rattle.lk3.proofs.NextLaws.{step-again}
-use Rattle.lk3.proofs.LevelLaws.{touching-none}
-use Rattle.lk3.proofs.ClosingLaws.{touching-gain, level3-none}
 
 -- ---- the first level
 pub stacked-begun : {t1 t2 : Stop} {st : LkState} (n : ℕ) → t2 < n → Begun t1 t2 st → Stacked n 0 st
@@ -48,33 +43,6 @@ side-is p t1 fwd t t2 g st b e f =
     let leg : legOf p t1 (ahead fwd (t .round) t1) ≡ g = ap (legOf p t1) (sym e) ∙ sym f in
     let there : ahead fwd (t .round) t1 ≡ t2 = sym e in
     λ i. touching (t1 ∷ first i ∷ []) (level3 p t1 50 (start i) (there i) (leg i))
-
--- ---- both sides
-module _ (p : Plan) (t1 : Stop) (t : Track) where
-  pub from-few : length (t .round) < 5 → lk3From p t1 t ≡ nothing t
-  unfolding lk3From
-  from-few h = rw (lt-ltb (length (t .round)) 5 h)
-
-  module _ (many : 5 ≤ length (t .round)) where
-    both : lk3From p t1 t ≡ orElse (lk3Side p t1 true t) (lk3Side p t1 false)
-    unfolding lk3From
-    both = rw (le-ltb (length (t .round)) 5 many)
-
-    pub from-first : 0 < lk3Side p t1 true t .gain → lk3From p t1 t ≡ lk3Side p t1 true t
-    unfolding orElse
-    from-first h = both ∙ by-gain (λ (z : Found). z ≡ lk3Side p t1 true t) (lk3Side p t1 true t .gain) {x = lk3Side p t1 false (lk3Side p t1 true t .track)} {y = λ g. lk3Side p t1 true t} (λ e. absurd (omega arith)) (λ g e. refl)
-
-    pub from-second : lk3Side p t1 true t .gain ≡ 0 → lk3From p t1 t ≡ lk3Side p t1 false (lk3Side p t1 true t .track)
-    unfolding orElse
-    from-second h = both ∙ by-gain (λ (z : Found). z ≡ lk3Side p t1 false (lk3Side p t1 true t .track)) (lk3Side p t1 true t .gain) {x = lk3Side p t1 false (lk3Side p t1 true t .track)} {y = λ g. lk3Side p t1 true t} (λ e. refl) (λ g e. absurd (omega arith))
-
--- a side that gains nothing leaves the track as it was
-pub side-none : (p : Plan) (t1 : Stop) (fwd : Bool) (t : Track) → lk3Side p t1 fwd t .gain ≡ 0 → lk3Side p t1 fwd t ≡ nothing t
-unfolding lk3Side begin
-side-none p t1 fwd t e =
-    let t2 = ahead fwd (t .round) t1 in
-    let f = level3 p t1 50 (begin t t1 t2) t2 (legOf p t1 t2) in
-    touching-none (t1 ∷ t2 ∷ []) f t (level3-none p t1 50 (begin t t1 t2) t2 (legOf p t1 t2) (sym (touching-gain (t1 ∷ t2 ∷ []) f) ∙ e))
 
 -- ---- one step in vain, and another
 -- as many entries are held

@@ -1,13 +1,12 @@
 -- A state with a move behind it stands for the step gone on with.
 use Prim.Native.Nat.{ℕ, _+_, _*_, _≤_, _<_}
-use mathlib.Core.Path.{_≡_, refl, sym, ap, _∙_}
+use mathlib.Core.Path.{_≡_, refl, ap, _∙_}
 use mathlib.Core.List.{List, [], _∷_, _++_, append-assoc}
 use native.Mathlib.Omega.{arith}
 use lib.ListN.{length, set, length-set}
 use Rattle.rules.specs.Words.{Stop}
 use Rattle.rules.specs.Ring.{Leg, leg}
-use Rattle.rules.specs.Journal.{Track}
-use Rattle.rules.specs.Step.{Step, going}
+use Rattle.rules.specs.Step.{going}
 use Rattle.moves.specs.Moves.{Six}
 use Rattle.lk_state.specs.declared.LkState.{LkState}
 use Rattle.lk_state.specs.Stacks.{legsIn, stopsIn, Stepping, LegWord}

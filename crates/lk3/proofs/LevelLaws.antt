@@ -1,26 +1,24 @@
 -- The ways out of a level, as its promise says them.
-use Prim.Native.Nat.{ℕ, zero, suc, _+_, _-_, _*_, _≤_, _<_}
-use mathlib.Core.Path.{_≡_, refl, sym, ap, _∙_, subst}
+use Prim.Native.Nat.{ℕ, suc, _+_, _-_, _*_, _≤_, _<_}
+use mathlib.Core.Path.{_≡_, refl, sym, ap, _∙_}
 use mathlib.Core.Logic.{_≢_}
 use mathlib.Core.Bool.{Bool, true, false}
-use mathlib.Core.List.{List, [], _∷_, _++_, append-assoc}
+use mathlib.Core.List.{List, [], _∷_, _++_}
 use native.Mathlib.Omega.{arith}
 use lib.Dec.{eqb}
 use lib.ListN.{length}
 use Rattle.rules.specs.Words.{Stop, Place, Time, Round}
 use Rattle.rules.specs.Ring.{leg, succ}
-use Rattle.rules.specs.Journal.{Track, trackOf, goodJournal, rollback, entriesOf}
+use Rattle.rules.specs.Journal.{Track, trackOf, rollback}
 use Rattle.rules.specs.Moves.{seq3}
 use Rattle.rules.specs.Plan.{Plan}
-use Rattle.rules.specs.Queue.{pushAll, waiting}
+use Rattle.rules.specs.Queue.{pushAll}
 use Rattle.rules.specs.Improve.{Found, endsOf, nothing, touching}
-use Rattle.rules.specs.Step.{Step, going}
+use Rattle.rules.specs.Step.{going}
 use Rattle.rules.specs.Lk3.{level3, moved3}
-use Rattle.rules.specs.Contracts.{Tied}
 use Rattle.laws.proofs.JournalLaws.{Past, past-rollback, entriesOf-length}
-use Rattle.laws.proofs.Lone3Laws.{touching-some}
+use Rattle.laws.proofs.Lone3Laws.{touching-gain, touching-none, touching-some, level3-none}
 use Rattle.laws.proofs.QueueLaws.{pushAll-join}
-use Rattle.queue.specs.Lines.{InLine, Waits}
 use Rattle.journal.specs.Journalled.{Grew, Back}
 use Rattle.journal.proofs.GrewLaws.{grew-grew, grew-back}
 use Rattle.moves.specs.Moves.{Made, caseOf}
@@ -33,7 +31,7 @@ use Rattle.tries.specs.Picks.{pick}
 use Rattle.seeks.specs.Seeks.{Sought, sought, moveTrial}
 use Rattle.scans3.specs.Scans.{scanOf}
 use Rattle.lk3.specs.Levels.{Grown, foundAt, queuedBy}
-use Rattle.lk3.proofs.ClosingLaws.{touching-gain, level3-none, level-closes, level-gain, level-off, on-deeper, on-three, level-gains, level-fails}
+use Rattle.lk3.proofs.ClosingLaws.{level-closes, level-gain, level-off, on-deeper, on-three, level-gains, level-fails}
 
 -- ---- the queue
 module _ (q : List Stop) (t1 first : Stop) (steps : List ℕ) (len c : ℕ) (t3 t4 t5 t6 : Stop) where
@@ -52,10 +50,6 @@ pub stepping-at : (ws : List ℕ) (len n n′ : ℕ) → n ≡ n′ → Stepping
 stepping-at ws len n n′ e s = rw e at s
 
 -- ---- what a level finds
-pub touching-none : (vs : List Stop) (f : Found) (t : Track) → f ≡ nothing t → touching vs f ≡ nothing t
-unfolding touching nothing
-touching-none vs f t e = rw e
-
 module _ (p : Plan) (t1 : Stop) (st : LkState) (t : Track) (t2 : Stop) (g : Time) (level : ℕ) where
   -- no gain: all is as it was
   pub found-none : foundAt p t1 st t t2 g level .gain ≡ 0 → foundAt p t1 st t t2 g level ≡ nothing t

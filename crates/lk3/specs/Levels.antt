@@ -8,7 +8,7 @@ use Rattle.rules.specs.Ring.{leg}
 use Rattle.rules.specs.Journal.{Track}
 use Rattle.rules.specs.Plan.{Plan}
 use Rattle.rules.specs.Improve.{Found, endsOf, touching}
-use Rattle.rules.specs.Step.{Step, going}
+use Rattle.rules.specs.Step.{going}
 use Rattle.rules.specs.Lk3.{level3}
 use Rattle.rules.specs.Contracts.{Tied, Square, Listed}
 use Rattle.queue.specs.Lines.{InLine}

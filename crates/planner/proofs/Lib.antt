@@ -1,3 +1,4 @@
 pub mod LeaveLaws
 pub mod KickLaws
 pub mod PromiseLaws
+pub mod DescentLaws

@@ -24,7 +24,7 @@ use Rattle.planner.proofs.LeaveLaws.{stands-refused, stands-done, lies-
 use Rattle.planner.proofs.KickLaws.{kick-leaves, kick-draws, kick-added, kick-removed}
 
 -- a refusal gives what came
-given-refused : (number done came : ℕ) → number ≢ 0 → given number done came ≡ came
+pub given-refused : (number done came : ℕ) → number ≢ 0 → given number done came ≡ came
 unfolding given
 given-refused zero done came h = absurd (h refl)
 given-refused (suc k) done came h = refl

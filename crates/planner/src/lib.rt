@@ -1,6 +1,6 @@
-// The public calls: load, commit, undo, kick. Each checks what it is lent, refuses with a number, or does what the rule says.
+// The public calls: load, commit, undo, kick, descend. Each checks what it is lent, refuses with a number, or does what the rule says.
 ghost use mathlib.Core.Path.{_≡_};
-ghost use Rattle.promises.specs.Promises.{Loads, Commits, Undoes, KicksOnce};
+ghost use Rattle.promises.specs.Promises.{Loads, Commits, Undoes, KicksOnce, Descends};
 ghost use Rattle.refusals.specs.Lending.{lending, carrying};
 use loads::load_round;
 use loads::undo_round;
@@ -8,6 +8,7 @@ use queue::Line;
 use refusals::call_number;
 use refusals::kick_number;
 use refusals::load_number;
+use refusals::step_good;
 
 // What goes in by value and comes back: the queue's head and count, the entries held, the carried time.
 pub struct State {
@@ -285,5 +286,104 @@ pub fn kick(
             time: time,
         },
         change: kicks::change(k.added, k.removed),
+    }
+}
+
+// A descent's answer: its number, the state, the gain, the units taken, and how it ended.
+pub struct Descended {
+    pub number: u32,
+    pub state: State,
+    pub gain: u32,
+    pub units: u32,
+    pub ended: u32,
+}
+
+// Takes stops from the queue and makes the step from each, while some wait, a unit is left and a kept descent has room.
+pub fn descend(
+    n: usize,
+    k: usize,
+    ka: usize,
+    matrix: &[u16],
+    near: &[u32],
+    alpha: &[u32],
+    round: &mut [u32],
+    places: &mut [u32],
+    queue: &mut [u32],
+    flags: &mut [u8],
+    scratch: &mut [u32],
+    journal: &mut [u32],
+    state: State,
+    keeps: bool,
+    step: u32,
+    budget: u32,
+) -> Descended
+    ensures { λ r. ⌜ Descends (lending n k ka (now (matrix .entry)) (now (near .entry)) (now (alpha .entry)) (now (round .entry)) (now (places .entry)) (now (queue .entry)) (now (flags .entry)) (now (scratch .entry)) (now (journal .entry))) (carrying (state .head) (state .count) (state .held) (state .time)) keeps step budget (lending n k ka (now (matrix .entry)) (now (near .entry)) (now (alpha .entry)) (now (round .exit)) (now (places .exit)) (now (queue .exit)) (now (flags .exit)) (now (scratch .exit)) (now (journal .exit))) (carrying (r .state .head) (r .state .count) (r .state .held) (r .state .time)) (r .number) (r .gain) (r .units) (r .ended) ⌝ }
+{
+    let told = step_good(ka, step);
+    let number = call_number(
+        n,
+        k,
+        ka,
+        matrix,
+        near,
+        alpha,
+        round,
+        places,
+        queue,
+        flags,
+        scratch,
+        journal,
+        state.head,
+        state.count,
+        state.held,
+        state.time,
+        told,
+    );
+    if number != 0 {
+        return Descended {
+            number: number,
+            state: state,
+            gain: 0,
+            units: 0,
+            ended: 0,
+        };
+    }
+    let line = Line {
+        head: state.head,
+        count: state.count,
+    };
+    let d = descent::descend(
+        matrix,
+        near,
+        k,
+        alpha,
+        ka,
+        round,
+        places,
+        scratch,
+        queue,
+        flags,
+        journal,
+        state.held,
+        line,
+        step,
+        keeps,
+        budget,
+        state.time,
+    );
+    let l = d.line;
+    let gain = state.time - d.time;
+    let units = budget - d.left;
+    Descended {
+        number: 0,
+        state: State {
+            head: l.head,
+            count: l.count,
+            held: d.held,
+            time: d.time,
+        },
+        gain: gain,
+        units: units,
+        ended: d.ended,
     }
 }

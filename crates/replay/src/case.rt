@@ -2,12 +2,12 @@
 // come the matrix, where its cells aren't drawn, and the answered round, if there is one, 16 bits each.
 ghost use Prim.Native.Nat.{_≤_};
 ghost use lib.ListN.{length};
-use crate::words::half;
-use crate::words::long;
-use crate::words::word;
 use draws::pick;
 use draws::step;
 use legs::wide;
+use lending::words::half;
+use lending::words::long;
+use lending::words::word;
 
 // The bytes before a record's cells.
 pub const HEAD: usize = 44;

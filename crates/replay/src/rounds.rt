@@ -5,8 +5,8 @@ use crate::case::Case;
 use crate::case::make_matrix;
 use crate::case::round_at;
 use crate::lent::fill;
-use crate::lent::same;
 use crate::lent::written;
+use lending::compare::same;
 
 // Runs one of the two start rounds.
 fn run_start(matrix: &[u16], n: usize, blocked: bool, round: &mut [u32]) -> u32 {

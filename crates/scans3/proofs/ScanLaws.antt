@@ -3,7 +3,7 @@
 use Prim.Native.Nat.{ℕ, _+_, _-_, _≤_, _<_}
 use mathlib.Core.Path.{_≡_, refl, sym, ap, _∙_}
 use mathlib.Core.Bool.{Bool, true, false, not, _||_}
-use mathlib.Core.List.{List, [], _∷_, _++_, append-assoc}
+use mathlib.Core.List.{List, _++_, append-assoc}
 use mathlib.Core.Logic.{_⊎_, inl, inr}
 use native.Mathlib.Omega.{arith}
 use borrow.Author.Tests.{lt-ltb, le-ltb, leb-true, leb-false}
@@ -19,7 +19,7 @@ use Rattle.laws.proofs.LeftLaws.{fifths, sides, thirds, thirds-all, sides-turn,
 use Rattle.laws.proofs.SkipLaws.{skip-done, skip-poor, skip-barred, skip-try}
 use Rattle.tries.specs.Picks.{Pick, pick, none, firstOf, triedTwo}
 use Rattle.tries.proofs.TryLaws.{two-tried}
-use Rattle.seeks.specs.Seeks.{Sought, sought, seekOf, betterOf, gainOf, soughtFifth, Lasts}
+use Rattle.seeks.specs.Seeks.{Sought, sought, seekOf, gainOf, soughtFifth, Lasts}
 use Rattle.seeks.proofs.SeekLaws.{part-closes, part-stays, first-closes, two-stays}
 use Rattle.seeks.proofs.FifthLaws.{fifth-sought}
 use Rattle.scans3.specs.Scans.{out3, out5}

@@ -1,5 +1,5 @@
 -- The trials of one t5, as the code seeks among them.
-use Prim.Native.Nat.{_+_, _-_, _≤_, _<_}
+use Prim.Native.Nat.{_+_}
 use mathlib.Core.Path.{_≡_, refl, sym, ap, _∙_}
 use mathlib.Core.Bool.{Bool, true, false}
 use mathlib.Core.List.{List, [], _∷_, _++_}
@@ -7,11 +7,11 @@ use lib.Dec.{eqb}
 use Rattle.rules.specs.Words.{Stop, Time, Legs, Round}
 use Rattle.rules.specs.Lists.{if_then_else_, keep}
 use Rattle.rules.specs.Ring.{ahead, behind, beside, between}
-use Rattle.rules.specs.Moves.{Case, two, flips, segment, inner}
-use Rattle.rules.specs.Improve.{Scan, Trial, sixths}
-use Rattle.moves.specs.Moves.{numberOf, caseOf}
-use Rattle.tries.specs.Picks.{Pick, pick, noList}
-use Rattle.seeks.specs.Seeks.{Sought, sought, seekOf, moveTrial, soughtFifth}
+use Rattle.rules.specs.Moves.{inner}
+use Rattle.rules.specs.Improve.{Trial, sixths}
+use Rattle.moves.specs.Moves.{caseOf}
+use Rattle.tries.specs.Picks.{Pick, noList}
+use Rattle.seeks.specs.Seeks.{sought, seekOf, moveTrial, soughtFifth}
 use Rattle.seeks.proofs.SeekLaws.{part-closes, part-stays}
 
 -- no list is read

@@ -1,25 +1,25 @@
 -- What may be gone on with, test by test; and the best of it, which is the one that a level of breadth 1 tries.
-use Prim.Native.Nat.{ℕ, zero, suc, _+_, _-_, _≤_, _<_, max}
+use Prim.Native.Nat.{ℕ, zero, suc, _-_, _≤_, _<_}
 use mathlib.Core.Path.{_≡_, refl, sym, ap, _∙_}
 use mathlib.Core.Logic.{_⊎_, inl, inr}
-use mathlib.Core.Bool.{Bool, true, false, not, _&&_, _||_}
-use mathlib.Core.List.{List, [], _∷_, _++_}
+use mathlib.Core.Bool.{Bool, true, false, not, _&&_}
+use mathlib.Core.List.{List, [], _∷_}
 use native.Mathlib.Omega.{arith}
-use borrow.Author.Tests.{lt-ltb, le-ltb, ltb-true, ltb-false}
+use borrow.Author.Tests.{lt-ltb, le-ltb, ltb-true}
 use lib.Dec.{ltb}
 use Rattle.rules.specs.Words.{Stop, Time, Legs}
-use Rattle.rules.specs.Lists.{at, if_then_else_, keep}
+use Rattle.rules.specs.Lists.{at, keep}
 use Rattle.rules.specs.Ring.{Leg, leg}
 use Rattle.rules.specs.Moves.{Case, two, flips, segment, inner}
-use Rattle.rules.specs.Plan.{Plan, legIn, listIn, legOf, nearOf}
+use Rattle.rules.specs.Plan.{legIn, listIn, legOf, nearOf}
 use Rattle.rules.specs.Improve.{Trial}
-use Rattle.rules.specs.Step.{Step, among, best}
+use Rattle.rules.specs.Step.{among, best}
 use Rattle.rules.specs.Lk3.{mayMove, mayGoOn}
-use Rattle.laws.proofs.ChoiceLaws.{either, either-if, true-false, and-true, or-true}
+use Rattle.laws.proofs.ChoiceLaws.{either, either-if, true-false, and-true}
 use Rattle.laws.proofs.LoneLaws.{bestOf, best-one}
 use Rattle.moves.specs.Moves.{numberOf, caseOf}
-use Rattle.tries.specs.Picks.{Pick, pick, none, firstOf}
-use Rattle.seeks.specs.Seeks.{Sought, sought, gainOf, openOf, betterOf, seekOf, moveTrial, mayIn, unbarred, Lasts, Seeks}
+use Rattle.tries.specs.Picks.{Pick, pick, none}
+use Rattle.seeks.specs.Seeks.{Sought, sought, gainOf, openOf, betterOf, seekOf, moveTrial, mayIn, unbarred}
 use Rattle.seeks.proofs.SeekLaws.{isClosed, moveOf, same-best, and-false, seek-closes, seek-stays}
 
 -- ---- the legs

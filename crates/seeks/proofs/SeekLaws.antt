@@ -1,5 +1,5 @@
 -- What a level of LK3 seeks: trial by trial, part by part, and what it means for the rule.
-use Prim.Native.Nat.{ℕ, _+_, _-_, _≤_, _<_, max}
+use Prim.Native.Nat.{ℕ, _-_, _≤_, _<_}
 use mathlib.Core.Path.{_≡_, refl, sym, ap, _∙_}
 use mathlib.Core.Bool.{Bool, true, false, _&&_}
 use mathlib.Core.List.{List, [], _∷_, _++_}
@@ -7,13 +7,13 @@ use native.Mathlib.Omega.{arith}
 use borrow.Author.Tests.{lt-ltb, le-ltb, ltb-true, ltb-false}
 use lib.Dec.{ltb}
 use Rattle.rules.specs.Words.{Stop, Time, Legs, Round}
-use Rattle.rules.specs.Lists.{if_then_else_, keep}
+use Rattle.rules.specs.Lists.{keep}
 use Rattle.rules.specs.Moves.{two}
 use Rattle.rules.specs.Improve.{Trial, twos}
 use Rattle.laws.proofs.ChoiceLaws.{either-if, true-false}
-use Rattle.moves.specs.Moves.{numberOf, caseOf}
+use Rattle.moves.specs.Moves.{numberOf}
 use Rattle.tries.specs.Picks.{Pick, pick, none, firstOf}
-use Rattle.seeks.specs.Seeks.{Sought, sought, gainOf, openOf, betterOf, seekOf}
+use Rattle.seeks.specs.Seeks.{Sought, sought, gainOf, betterOf, seekOf}
 
 unfoldable pub isClosed : Sought → Bool
 isClosed (sought b p) = b

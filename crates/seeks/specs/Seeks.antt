@@ -1,5 +1,5 @@
 -- What a level of LK3 seeks among its trials, as the code holds it. Assumes nothing.
-use Prim.Native.Nat.{ℕ, _+_, _-_, _≤_, _<_}
+use Prim.Native.Nat.{ℕ, _-_, _≤_, _<_}
 use mathlib.Core.Path.{_≡_}
 use mathlib.Core.Bool.{Bool, true, false, not, _&&_, _||_}
 use mathlib.Core.List.{List, [], _∷_}
@@ -7,10 +7,8 @@ use lib.Dec.{ltb}
 use Rattle.rules.specs.Words.{Stop, Time, Round, Legs}
 use Rattle.rules.specs.Lists.{keep}
 use Rattle.rules.specs.Ring.{Leg, leg}
-use Rattle.rules.specs.Journal.{Track}
-use Rattle.rules.specs.Plan.{Plan, legIn}
 use Rattle.rules.specs.Improve.{Trial, sixths}
-use Rattle.rules.specs.Step.{Step, among}
+use Rattle.rules.specs.Step.{among}
 use Rattle.rules.specs.Lk3.{mayGoOn}
 use Rattle.rules.specs.Contracts.{Square, Listed}
 use Rattle.moves.specs.Moves.{numberOf, caseOf}

@@ -1,14 +1,10 @@
 use borrow.Author.Tests.{eq-eqb, ne-eqb}
 use Rattle.lk3.proofs.gives_up.Statement.{statement}
 use Rattle.lk3.proofs.gives_up.Tie as tie
-use Rattle.lk3.proofs.gives_up.Reads as reads
-use Rattle.lk3.proofs.gives_up.Lts as lts
 
--- src/lib.rt:52:9
 returns : tie.Need-returns
 returns c = rw (eq-eqb _ _ ((c .if1) .taken))
 
--- src/lib.rt:48:1
 returns-2 : tie.Need-returns-2
 returns-2 c = rw (ne-eqb _ _ ((c .if1) .left))
 

@@ -4,22 +4,16 @@ use Rattle.lk3.proofs.ClosingLaws.{breadth-read}
 use borrow.Author.Needs.{needs}
 use Rattle.lk3.proofs.lk3_breadth.Statement.{statement}
 use Rattle.lk3.proofs.lk3_breadth.Tie as tie
-use Rattle.lk3.proofs.lk3_breadth.Reads as reads
-use Rattle.lk3.proofs.lk3_breadth.Lts as lts
 
--- src/lib.rt:44:20
 mul-result : tie.Need-mul-result
 mul-result c = search needs
 
--- src/lib.rt:44:20
 array-read-result : tie.Need-array-read-result
 array-read-result c = search needs
 
--- src/lib.rt:41:1
 returns : tie.Need-returns
 returns c = breadth-read ((c .before .args) .level) ((c .if1) .taken)
 
--- src/lib.rt:41:1
 returns-2 : tie.Need-returns-2
 returns-2 c = sym (breadth3-one ((c .before .args) .level))
 

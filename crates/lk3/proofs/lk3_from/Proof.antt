@@ -1,59 +1,48 @@
 use Rattle.lk3.specs.Levels.{Step3}
-use Rattle.lk3.proofs.FromLaws.{again, from-few, from-first, from-second, side-none, stepped-after}
-use Prim.Native.Nat.{ℕ, _<_, _≤_}
+use Rattle.lk3.proofs.FromLaws.{again, stepped-after}
+use Rattle.laws.proofs.Lk3FromLaws.{from-few, from-first, from-second, side-none}
+use Prim.Native.Nat.{ℕ}
 use mathlib.Core.Path.{_≡_, refl, sym, ap, _∙_, subst}
-use mathlib.Core.Bool.{Bool, true, false}
+use mathlib.Core.Bool.{true, false}
 use native.Mathlib.Omega.{arith}
 use lib.ListN.{length}
-use Rattle.rules.specs.Journal.{Track, trackOf}
-use Rattle.rules.specs.Improve.{Found, nothing}
-use Rattle.rules.specs.Lk3.{lk3Side, lk3From}
+use Rattle.rules.specs.Journal.{trackOf}
+use Rattle.rules.specs.Improve.{nothing}
+use Rattle.rules.specs.Lk3.{lk3Side}
 use Rattle.improve.specs.Steps.{planOf, Stepped}
 use Rattle.improve.proofs.StepLaws.{stepped-none}
 use Rattle.lk3.proofs.LevelLaws.{stepped-more}
 use borrow.Author.Needs.{needs}
 use Rattle.lk3.proofs.lk3_from.Statement.{statement}
 use Rattle.lk3.proofs.lk3_from.Tie as tie
-use Rattle.lk3.proofs.lk3_from.Reads as reads
-use Rattle.lk3.proofs.lk3_from.Lts as lts
-use Rattle.lk3.proofs.lk3_side.Reads as lk3-side-reads
 
--- src/lib.rt:340:9
 returns : tie.Need-returns
 unfolding trackOf
 returns c = let a = (c .before .before .before .before .before .before .before .before .before .before .args) in let q = (c .before .before .before .before .before .before .before .before .before .before .pre) in
     let p = planOf (length (a .round .now)) (a .matrix .now) (a .k) (a .near .now) (a .ka) (a .alpha .now) in
     stepped-none (from-few p (a .t1 .0) (trackOf (a .round .now) (a .journal .now) (a .held)) ((c .if1) .taken)) refl (q .0 .tied) (q .1 .1 .1 .1 .1 .1 .1 .good) (q .1 .1 .1 .1 .1 .1 .0)
 
--- src/lib.rt:346:9
 lk3-side-requires : tie.Need-lk3-side-requires
 lk3-side-requires c κs = let q = (c .before .before .before .before .before .before .before .before .before .before .before .before .before .before .before .before .pre) in (record { tied = q .0 .tied; square = q .0 .square; lists = q .0 .lists; some = q .1 .0; alphas = q .1 .1 .0; low1 = q .1 .1 .1 .0; spare = q .1 .1 .1 .1 .0; queued = q .1 .1 .1 .1 .1 .0; line = q .1 .1 .1 .1 .1 .1 .0 }, q .1 .1 .1 .1 .1 .1 .1)
 
--- src/lib.rt:351:9
 same-length : tie.Need-same-length
 same-length c = search needs
 
--- src/lib.rt:351:9
 same-length-2 : tie.Need-same-length-2
 same-length-2 c = search needs
 
--- src/lib.rt:351:9
 same-length-3 : tie.Need-same-length-3
 same-length-3 c = search needs
 
--- src/lib.rt:351:9
 same-length-4 : tie.Need-same-length-4
 same-length-4 c = search needs
 
--- src/lib.rt:351:9
 same-length-5 : tie.Need-same-length-5
 same-length-5 c = search needs
 
--- src/lib.rt:351:9
 same-length-6 : tie.Need-same-length-6
 same-length-6 c = search needs
 
--- src/lib.rt:351:9
 returns-2 : tie.Need-returns-2
 unfolding trackOf
 returns-2 c = let a = (c .before .before .before .before .before .before .before .before .before .before .before .before .before .before .before .before .before .before .before .before .before .before .before .before .before .before .before .before .before .before .before .args) in
@@ -62,7 +51,6 @@ returns-2 c = let a = (c .before .before .before .before .before .before .before
     let s = (c .before .before .before .before .before .before .before .before .before .before .before .before .before .before .lk3-side) .ensures in
     stepped-more (from-first p (a .t1 .0) t ((c .before .before .before .before .before .before .before .before .before .before .before .before .before .before .before .before .before .before .before .before .before .if1) .left) (omega (arith, s .gain-is, (c .if2) .taken))) (omega arith) s
 
--- src/lib.rt:354:5
 lk3-side-requires-2 : tie.Need-lk3-side-requires-2
 lk3-side-requires-2 c κs = let a = (c .before .before .before .before .before .before .before .before .before .before .before .before .before .before .before .before .before .before .before .before .before .before .before .before .before .before .before .before .before .before .before .before .before .before .before .before .before .before .args) in let q = (c .before .before .before .before .before .before .before .before .before .before .before .before .before .before .before .before .before .before .before .before .before .before .before .before .before .before .before .before .before .before .before .before .before .before .before .before .before .before .pre) in
     let p = planOf (length (a .round .now)) (a .matrix .now) (a .k) (a .near .now) (a .ka) (a .alpha .now) in
@@ -73,31 +61,24 @@ lk3-side-requires-2 c κs = let a = (c .before .before .before .before .before .
     let here : Step3 (a .matrix .now) (a .near .now) (a .k) (a .alpha .now) (a .ka) (a .round .now) (a .places .now) (a .scratch .now) (a .queue .now) (a .flags .now) (a .line .head) (a .line .count) (a .t1 .0) = record { tied = q .0 .tied; square = q .0 .square; lists = q .0 .lists; some = q .1 .0; alphas = q .1 .1 .0; low1 = q .1 .1 .1 .0; spare = q .1 .1 .1 .1 .0; queued = q .1 .1 .1 .1 .1 .0; line = q .1 .1 .1 .1 .1 .1 .0 } in
     again here (q .1 .1 .1 .1 .1 .1 .1) none s ((c .before .before .before .before .before .before .before .before .before .before .before .before .before .before .before .before .before .before .before .before .before .lk3-side) .kept .1 .1 .1 .1 .1 .0) ((c .before .before .before .before .before .before .before .before .before .before .before .before .before .before .before .before .before .before .before .before .before .lk3-side) .kept .1 .1 .1 .1 .1 .1 .1 .0) ((c .before .before .before .before .before .before .before .before .before .before .before .before .before .before .before .before .before .before .before .before .before .lk3-side) .kept .1 .1 .1 .1 .1 .1 .1 .1 .0) ((c .before .before .before .before .before .before .before .before .before .before .before .before .before .before .before .before .before .before .before .before .before .lk3-side) .kept .1 .1 .1 .1 .1 .1 .1 .1 .1 .1 .0)
 
--- src/lib.rt:313:1
 same-length-7 : tie.Need-same-length-7
 same-length-7 c = (c .before .before .before .before .before .before .before .before .before .before .before .before .lk3-side2) .kept .1 .1 .1 .1 .1 .0 ∙ (c .before .before .before .before .before .before .before .before .before .before .before .before .before .before .before .before .before .before .before .before .before .before .before .before .before .before .before .before .before .before .before .before .before .before .lk3-side) .kept .1 .1 .1 .1 .1 .0
 
--- src/lib.rt:313:1
 same-length-8 : tie.Need-same-length-8
 same-length-8 c = (c .before .before .before .before .before .before .before .before .before .before .before .before .lk3-side2) .kept .1 .1 .1 .1 .1 .1 .0 ∙ (c .before .before .before .before .before .before .before .before .before .before .before .before .before .before .before .before .before .before .before .before .before .before .before .before .before .before .before .before .before .before .before .before .before .before .lk3-side) .kept .1 .1 .1 .1 .1 .1 .0
 
--- src/lib.rt:313:1
 same-length-9 : tie.Need-same-length-9
 same-length-9 c = (c .before .before .before .before .before .before .before .before .before .before .before .before .lk3-side2) .kept .1 .1 .1 .1 .1 .1 .1 .0 ∙ (c .before .before .before .before .before .before .before .before .before .before .before .before .before .before .before .before .before .before .before .before .before .before .before .before .before .before .before .before .before .before .before .before .before .before .lk3-side) .kept .1 .1 .1 .1 .1 .1 .1 .0
 
--- src/lib.rt:313:1
 same-length-10 : tie.Need-same-length-10
 same-length-10 c = (c .before .before .before .before .before .before .before .before .before .before .before .before .lk3-side2) .kept .1 .1 .1 .1 .1 .1 .1 .1 .0 ∙ (c .before .before .before .before .before .before .before .before .before .before .before .before .before .before .before .before .before .before .before .before .before .before .before .before .before .before .before .before .before .before .before .before .before .before .lk3-side) .kept .1 .1 .1 .1 .1 .1 .1 .1 .0
 
--- src/lib.rt:313:1
 same-length-11 : tie.Need-same-length-11
 same-length-11 c = (c .before .before .before .before .before .before .before .before .before .before .before .before .lk3-side2) .kept .1 .1 .1 .1 .1 .1 .1 .1 .1 .0 ∙ (c .before .before .before .before .before .before .before .before .before .before .before .before .before .before .before .before .before .before .before .before .before .before .before .before .before .before .before .before .before .before .before .before .before .before .lk3-side) .kept .1 .1 .1 .1 .1 .1 .1 .1 .1 .0
 
--- src/lib.rt:313:1
 same-length-12 : tie.Need-same-length-12
 same-length-12 c = (c .before .before .before .before .before .before .before .before .before .before .before .before .lk3-side2) .kept .1 .1 .1 .1 .1 .1 .1 .1 .1 .1 .0 ∙ (c .before .before .before .before .before .before .before .before .before .before .before .before .before .before .before .before .before .before .before .before .before .before .before .before .before .before .before .before .before .before .before .before .before .before .lk3-side) .kept .1 .1 .1 .1 .1 .1 .1 .1 .1 .1 .0
 
--- src/lib.rt:313:1
 returns-3 : tie.Need-returns-3
 unfolding trackOf
 returns-3 c = let a = (c .before .before .before .before .before .before .before .before .before .before .before .before .before .before .before .before .before .before .before .before .before .before .before .before .before .before .before .before .before .before .before .before .before .before .before .before .before .before .before .before .before .before .before .before .before .before .before .before .before .before .before .args) in let q = (c .before .before .before .before .before .before .before .before .before .before .before .before .before .before .before .before .before .before .before .before .before .before .before .before .before .before .before .before .before .before .before .before .before .before .before .before .before .before .before .before .before .before .before .before .before .before .before .before .before .before .before .pre) in

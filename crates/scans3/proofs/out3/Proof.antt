@@ -1,23 +1,16 @@
-use mathlib.Core.Bool.{true}
 use borrow.Author.Tests.{le-leb, lt-leb}
 use Rattle.scans3.specs.Scans.{out3}
 use borrow.Author.Needs.{needs}
 use Rattle.scans3.proofs.out3.Statement.{statement}
 use Rattle.scans3.proofs.out3.Tie as tie
-use Rattle.scans3.proofs.out3.Reads as reads
-use Rattle.scans3.proofs.out3.Lts as lts
-use Rattle.moves.proofs.entries.either.Reads as either-reads
 
--- src/lib.rt:27:9
 returns : tie.Need-returns
 unfolding out3
 returns c = rw (le-leb _ _ ((c .if1) .taken))
 
--- src/lib.rt:29:5
 either-requires : tie.Need-either-requires
 either-requires c κs = search needs
 
--- src/lib.rt:23:1
 returns-2 : tie.Need-returns-2
 unfolding out3
 returns-2 c = rw (lt-leb _ _ ((c .before .if1) .left)) ((c .either) .ensures)

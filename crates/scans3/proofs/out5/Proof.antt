@@ -1,23 +1,16 @@
-use mathlib.Core.Bool.{true}
 use borrow.Author.Tests.{le-leb, lt-leb}
 use Rattle.scans3.specs.Scans.{out5}
 use borrow.Author.Needs.{needs}
 use Rattle.scans3.proofs.out5.Statement.{statement}
 use Rattle.scans3.proofs.out5.Tie as tie
-use Rattle.scans3.proofs.out5.Reads as reads
-use Rattle.scans3.proofs.out5.Lts as lts
-use Rattle.moves.proofs.entries.any_of.Reads as any-of-reads
 
--- src/lib.rt:37:9
 returns : tie.Need-returns
 unfolding out5
 returns c = rw (le-leb _ _ ((c .if1) .taken))
 
--- src/lib.rt:39:5
 any-of-requires : tie.Need-any-of-requires
 any-of-requires c κs = search needs
 
--- src/lib.rt:33:1
 returns-2 : tie.Need-returns-2
 unfolding out5
 returns-2 c = rw (lt-leb _ _ ((c .before .if1) .left)) ((c .any-of) .ensures)

@@ -1,28 +1,19 @@
 use mathlib.Core.Path.{_≡_, sym, ap, _∙_}
-use mathlib.Core.Bool.{Bool, true, false, not}
-use mathlib.Core.List.{List}
-use Rattle.rules.specs.Ring.{Leg, leg}
+use mathlib.Core.Bool.{true, false, not}
+use Rattle.rules.specs.Ring.{leg}
 use Rattle.rules.specs.Step.{among}
 use Rattle.lk_state.specs.Stacks.{legsIn}
 use Rattle.seeks.proofs.MayLaws.{bars-23, bars-45, bars-34, bars-56}
 use borrow.Author.Needs.{needs}
 use Rattle.seeks.proofs.allowed.Statement.{statement}
 use Rattle.seeks.proofs.allowed.Tie as tie
-use Rattle.seeks.proofs.allowed.Reads as reads
-use Rattle.seeks.proofs.allowed.Lts as lts
-use Rattle.lk_state.proofs.added_has.Reads as added-has-reads
-use Rattle.lk_state.proofs.leg_word.Reads as leg-word-reads
-use Rattle.lk_state.proofs.removed_has.Reads as removed-has-reads
 
--- src/lib.rt:53:35
 leg-word-requires : tie.Need-leg-word-requires
 leg-word-requires c κs = search needs
 
--- src/lib.rt:53:8
 removed-has-requires : tie.Need-removed-has-requires
 removed-has-requires c κs = search needs
 
--- src/lib.rt:54:9
 returns : tie.Need-returns
 returns c = let a = (c .before .before .before .args) in
     let adds = legsIn (a .added .now) (a .adds) in
@@ -30,15 +21,12 @@ returns c = let a = (c .before .before .before .args) in
     let e23 : among cuts (leg (a .t2 .0) (a .t3 .0)) ≡ true = ap (among cuts) (sym ((c .before .before .leg-word) .ensures .is)) ∙ sym ((c .before .removed-has) .ensures) ∙ (c .if1) .taken in
     bars-23 adds cuts (a .t2 .0) (a .t3 .0) (a .t4 .0) (a .t5 .0) (a .t6 .0) e23
 
--- src/lib.rt:56:35
 leg-word-requires-2 : tie.Need-leg-word-requires-2
 leg-word-requires-2 c κs = search needs
 
--- src/lib.rt:56:8
 removed-has-requires-2 : tie.Need-removed-has-requires-2
 removed-has-requires-2 c κs = search needs
 
--- src/lib.rt:57:9
 returns-2 : tie.Need-returns-2
 returns-2 c = let a = (c .before .before .before .before .before .before .args) in
     let adds = legsIn (a .added .now) (a .adds) in
@@ -47,15 +35,12 @@ returns-2 c = let a = (c .before .before .before .before .before .before .args) 
     let e45 : among cuts (leg (a .t4 .0) (a .t5 .0)) ≡ true = ap (among cuts) (sym ((c .before .before .leg-word2) .ensures .is)) ∙ sym ((c .before .removed-has2) .ensures) ∙ (c .if2) .taken in
     bars-45 adds cuts (a .t2 .0) (a .t3 .0) (a .t4 .0) (a .t5 .0) (a .t6 .0) e23 e45
 
--- src/lib.rt:59:31
 leg-word-requires-3 : tie.Need-leg-word-requires-3
 leg-word-requires-3 c κs = search needs
 
--- src/lib.rt:59:8
 added-has-requires : tie.Need-added-has-requires
 added-has-requires c κs = search needs
 
--- src/lib.rt:60:9
 returns-3 : tie.Need-returns-3
 returns-3 c = let a = (c .before .before .before .before .before .before .before .before .before .args) in
     let adds = legsIn (a .added .now) (a .adds) in
@@ -65,15 +50,12 @@ returns-3 c = let a = (c .before .before .before .before .before .before .before
     let e34 : among adds (leg (a .t3 .0) (a .t4 .0)) ≡ true = ap (among adds) (sym ((c .before .before .leg-word3) .ensures .is)) ∙ sym ((c .before .added-has) .ensures) ∙ (c .if3) .taken in
     bars-34 adds cuts (a .t2 .0) (a .t3 .0) (a .t4 .0) (a .t5 .0) (a .t6 .0) e23 e45 e34
 
--- src/lib.rt:62:29
 leg-word-requires-4 : tie.Need-leg-word-requires-4
 leg-word-requires-4 c κs = search needs
 
--- src/lib.rt:62:6
 added-has-requires-2 : tie.Need-added-has-requires-2
 added-has-requires-2 c κs = search needs
 
--- src/lib.rt:33:1
 returns-4 : tie.Need-returns-4
 returns-4 c = let a = (c .before .before .before .before .before .before .before .before .before .before .before .args) in
     let adds = legsIn (a .added .now) (a .adds) in

@@ -1,6 +1,5 @@
-use mathlib.Core.Path.{_≡_, sym, ap, _∙_}
-use mathlib.Core.Bool.{Bool, true, false, not}
-use borrow.Author.Tests.{not-true, not-false, leb-true, leb-false}
+use mathlib.Core.Path.{_≡_, ap, _∙_}
+use borrow.Author.Tests.{not-true, not-false}
 use native.Mathlib.Omega.{arith}
 use Prim.Native.Nat.{_<_, _≤_}
 use Rattle.rules.specs.Lists.{at}
@@ -10,31 +9,21 @@ use Rattle.seeks.proofs.MayLaws.{on-low, on-last, on-poor, on-free}
 use borrow.Author.Needs.{needs}
 use Rattle.seeks.proofs.goes_on.Statement.{statement}
 use Rattle.seeks.proofs.goes_on.Tie as tie
-use Rattle.seeks.proofs.goes_on.Reads as reads
-use Rattle.seeks.proofs.goes_on.Lts as lts
-use Rattle.legs.proofs.dist.Reads as dist-reads
-use Rattle.moves.proofs.entries.listed.Reads as listed-reads
-use Rattle.seeks.proofs.allowed.Reads as allowed-reads
 
--- src/lib.rt:88:9
 returns : tie.Need-returns
 returns c = let a = (c .before .before .before .before .args) in let m = a .mv in
     on-low (a .n) (a .matrix .now) (a .k) (a .near .now) (legsIn (a .added .now) (a .adds)) (legsIn (a .removed .now) (a .cuts)) (a .deeper) (a .t2 .0) (m .case) (m .gain) (m .t3 .0) (m .t4 .0) (m .t5 .0) (m .t6 .0) ((c .before .before .before .before .pre) .1 .1 .1) (a .floor) ((c .if1) .taken)
 
--- src/lib.rt:91:9
 returns-2 : tie.Need-returns-2
 returns-2 c = let a = (c .before .before .before .before .before .args) in let m = a .mv in
     on-last (a .n) (a .matrix .now) (a .k) (a .near .now) (legsIn (a .added .now) (a .adds)) (legsIn (a .removed .now) (a .cuts)) (a .deeper) (a .t2 .0) (m .case) (m .gain) (m .t3 .0) (m .t4 .0) (m .t5 .0) (m .t6 .0) ((c .before .before .before .before .before .pre) .1 .1 .1) (a .floor) ((c .before .if1) .left) (not-true _ ((c .if2) .taken))
 
--- src/lib.rt:93:9
 listed-requires : tie.Need-listed-requires
 listed-requires c κs = search needs
 
--- src/lib.rt:94:19
 dist-requires : tie.Need-dist-requires
 dist-requires c κs = search needs
 
--- src/lib.rt:95:9
 returns-3 : tie.Need-returns-3
 returns-3 c = let a = (c .before .before .before .before .before .before .before .before .before .args) in let m = a .mv in
     let first : (c .before .before .before .listed) .result .0 ≡ at (listIn (a .k) (a .near .now) (m .t6 .0)) 0 = (c .before .before .before .listed) .ensures .is in
@@ -42,11 +31,9 @@ returns-3 c = let a = (c .before .before .before .before .before .before .before
     let poor : m .gain ≤ legIn (a .n) (a .matrix .now) (m .t6 .0) (at (listIn (a .k) (a .near .now) (m .t6 .0)) 0) = omega (arith, leg, (c .if3) .taken) in
     on-poor (a .n) (a .matrix .now) (a .k) (a .near .now) (legsIn (a .added .now) (a .adds)) (legsIn (a .removed .now) (a .cuts)) (a .deeper) (a .t2 .0) (m .case) (m .gain) (m .t3 .0) (m .t4 .0) (m .t5 .0) (m .t6 .0) ((c .before .before .before .before .before .before .before .before .before .pre) .1 .1 .1) (a .floor) ((c .before .before .before .before .before .if1) .left) (not-false _ ((c .before .before .before .before .if2) .left)) poor
 
--- src/lib.rt:97:5
 allowed-requires : tie.Need-allowed-requires
 allowed-requires c κs = search needs
 
--- src/lib.rt:67:1
 returns-4 : tie.Need-returns-4
 returns-4 c = let a = (c .before .before .before .before .before .before .before .before .before .before .args) in let m = a .mv in
     let first : (c .before .before .before .before .listed) .result .0 ≡ at (listIn (a .k) (a .near .now) (m .t6 .0)) 0 = (c .before .before .before .before .listed) .ensures .is in

@@ -1,30 +1,19 @@
-use mathlib.Core.Path.{_≡_, sym, ap, _∙_}
+use mathlib.Core.Path.{sym, _∙_}
 use borrow.Author.Tests.{not-true, not-false}
 use native.Mathlib.Omega.{arith}
 use lib.ListN.{length}
-use Prim.Native.Nat.{_<_, _≤_}
 use Rattle.rules.specs.Plan.{legIn}
-use Rattle.tries.specs.Picks.{Pick, pick}
+use Rattle.tries.specs.Picks.{pick}
 use Rattle.lk_state.specs.Stacks.{legsIn}
 use Rattle.seeks.specs.Seeks.{mayIn}
 use Rattle.seeks.proofs.FifthLaws.{outside, segment-closes, segment-alone, inner-too}
 use borrow.Author.Needs.{needs}
 use Rattle.seeks.proofs.seek_after.Statement.{statement}
 use Rattle.seeks.proofs.seek_after.Tie as tie
-use Rattle.seeks.proofs.seek_after.Reads as reads
-use Rattle.seeks.proofs.seek_after.Lts as lts
-use Rattle.legs.proofs.dist.Reads as dist-reads
-use Rattle.moves.proofs.entries.same.Reads as same-reads
-use Rattle.ring.proofs.stops.ahead.Reads as ahead-reads
-use Rattle.ring.proofs.stops.behind.Reads as behind-reads
-use Rattle.ring.proofs.stops.between_dir.Reads as between-dir-reads
-use Rattle.seeks.proofs.seek_one.Reads as seek-one-reads
 
--- src/lib.rt:220:9
 between-dir-requires : tie.Need-between-dir-requires
 between-dir-requires c κs = search needs
 
--- src/lib.rt:222:9
 returns : tie.Need-returns
 returns c = let a = (c .before .before .before .before .before .before .args) in let b = a .best in
     let r = a .round .now in
@@ -32,23 +21,18 @@ returns c = let a = (c .before .before .before .before .before .before .args) in
     let so = pick (b .case) (b .gain) (b .t3 .0) (b .t4 .0) (b .t5 .0) (b .t6 .0) in
     record { is = outside (legIn (length r) (a .matrix .now)) may so (a .fwd) r (a .t1 .0) (a .t2 .0) (a .t3 .0) (a .t4 .0) (a .t5 .0) (a .g3) ((c .before .between-dir) .result) ((c .before .between-dir) .ensures) (not-true _ ((c .if1) .taken)); lasts = (c .before .before .before .before .before .before .pre) .1 .1 .1 .1; small = omega arith }
 
--- src/lib.rt:227:9
 ahead-requires : tie.Need-ahead-requires
 ahead-requires c κs = search needs
 
--- src/lib.rt:228:21
 dist-requires : tie.Need-dist-requires
 dist-requires c κs = search needs
 
--- src/lib.rt:228:16
 add-open : tie.Need-add-open
 add-open c = search needs
 
--- src/lib.rt:237:9
 seek-one-requires : tie.Need-seek-one-requires
 seek-one-requires c κs = let p = (c .before .before .before .before .before .before .before .before .pre) in (p .1 .0, (p .1 .1 .0 .low1, (p .1 .1 .0 .low2, (omega arith, (omega arith, (record { low3 = p .1 .1 .0 .low3; low4 = p .1 .1 .0 .low4; low5 = p .1 .1 .0 .low5; low6 = (c .before .ahead) .ensures .below }, p .1 .1 .1 .1))))))
 
--- src/lib.rt:241:9
 returns-2 : tie.Need-returns-2
 returns-2 c = let a = (c .before .before .before .before .before .before .before .before .before .before .args) in let b = a .best in
     let r = a .round .now in
@@ -57,11 +41,9 @@ returns-2 c = let a = (c .before .before .before .before .before .before .before
     let s = (c .before .seek-one) in let m = s .result .mv in
     record { is = segment-closes (legIn (length r) (a .matrix .now)) may so (a .fwd) r (a .t1 .0) (a .t2 .0) (a .t3 .0) (a .t4 .0) (a .t5 .0) (a .g3) ((c .before .before .before .before .before .between-dir) .result) ((c .before .before .before .before .before .between-dir) .ensures) (not-false _ ((c .before .before .before .before .if1) .left)) ((c .before .before .before .ahead) .result .0) ((c .before .before .dist) .result) ((c .before .before .before .ahead) .ensures .is) ((c .before .before .dist) .ensures .is) (s .result .closed) (pick (m .case) (m .gain) (m .t3 .0) (m .t4 .0) (m .t5 .0) (m .t6 .0)) (s .ensures .is) ((c .if2) .taken); lasts = s .ensures .lasts; small = omega (arith, s .ensures .small, (c .before .before .dist) .ensures .small) }
 
--- src/lib.rt:243:9
 same-requires : tie.Need-same-requires
 same-requires c κs = search needs
 
--- src/lib.rt:245:9
 returns-3 : tie.Need-returns-3
 returns-3 c = let a = (c .before .before .before .before .before .before .before .before .before .before .before .before .args) in let b = a .best in
     let r = a .round .now in
@@ -70,23 +52,18 @@ returns-3 c = let a = (c .before .before .before .before .before .before .before
     let s = (c .before .before .before .seek-one) in let m = s .result .mv in
     record { is = segment-alone (legIn (length r) (a .matrix .now)) may so (a .fwd) r (a .t1 .0) (a .t2 .0) (a .t3 .0) (a .t4 .0) (a .t5 .0) (a .g3) ((c .before .before .before .before .before .before .before .between-dir) .result) ((c .before .before .before .before .before .before .before .between-dir) .ensures) (not-false _ ((c .before .before .before .before .before .before .if1) .left)) ((c .before .before .before .before .before .ahead) .result .0) ((c .before .before .before .before .dist) .result) ((c .before .before .before .before .before .ahead) .ensures .is) ((c .before .before .before .before .dist) .ensures .is) (s .result .closed) (pick (m .case) (m .gain) (m .t3 .0) (m .t4 .0) (m .t5 .0) (m .t6 .0)) (s .ensures .is) ((c .before .before .if2) .left) (sym ((c .before .same) .ensures) ∙ (c .if3) .taken); lasts = s .ensures .lasts; small = omega (arith, s .ensures .small, (c .before .before .before .before .dist) .ensures .small) }
 
--- src/lib.rt:247:9
 behind-requires : tie.Need-behind-requires
 behind-requires c κs = ((c .before .before .before .before .before .before .before .before .before .before .before .before .pre) .0, (c .before .before .before .before .before .before .before .before .before .before .before .before .pre) .1 .1 .0 .low5)
 
--- src/lib.rt:248:22
 dist-requires-2 : tie.Need-dist-requires-2
 dist-requires-2 c κs = ((c .before .before .before .before .before .before .before .before .before .before .before .before .before .pre) .1 .0 .square, ((c .before .before .before .before .before .before .before .before .before .before .before .before .before .pre) .1 .1 .0 .low5, (c .behind) .ensures .below))
 
--- src/lib.rt:248:17
 add-other : tie.Need-add-other
 add-other c = omega (arith, (c .before .before .before .before .before .before .before .before .before .before .before .before .before .before .pre) .1 .1 .1 .0, (c .dist2) .ensures .small)
 
--- src/lib.rt:258:5
 seek-one-requires-2 : tie.Need-seek-one-requires-2
 seek-one-requires-2 c κs = let p = (c .before .before .before .before .before .before .before .before .before .before .before .before .before .before .before .pre) in (p .1 .0, (p .1 .1 .0 .low1, (p .1 .1 .0 .low2, (omega arith, (omega arith, (record { low3 = p .1 .1 .0 .low3; low4 = p .1 .1 .0 .low4; low5 = p .1 .1 .0 .low5; low6 = (c .before .before .behind) .ensures .below }, (c .before .before .before .before .before .before .seek-one) .ensures .lasts))))))
 
--- src/lib.rt:192:1
 returns-4 : tie.Need-returns-4
 returns-4 c = let a = (c .before .before .before .before .before .before .before .before .before .before .before .before .before .before .before .before .args) in let b = a .best in
     let r = a .round .now in

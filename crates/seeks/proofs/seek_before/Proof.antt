@@ -1,43 +1,30 @@
-use mathlib.Core.Path.{_≡_, sym, ap, _∙_}
+use mathlib.Core.Path.{_∙_}
 use native.Mathlib.Omega.{arith}
 use lib.ListN.{length}
-use Prim.Native.Nat.{_<_, _≤_}
 use Rattle.rules.specs.Plan.{legIn}
-use Rattle.tries.specs.Picks.{Pick, pick}
+use Rattle.tries.specs.Picks.{pick}
 use Rattle.lk_state.specs.Stacks.{legsIn}
 use Rattle.seeks.specs.Seeks.{mayIn}
 use Rattle.seeks.proofs.FifthLaws.{before-one}
 use borrow.Author.Needs.{needs}
 use Rattle.seeks.proofs.seek_before.Statement.{statement}
 use Rattle.seeks.proofs.seek_before.Tie as tie
-use Rattle.seeks.proofs.seek_before.Reads as reads
-use Rattle.seeks.proofs.seek_before.Lts as lts
-use Rattle.legs.proofs.dist.Reads as dist-reads
-use Rattle.ring.proofs.stops.beside.Reads as beside-reads
-use Rattle.ring.proofs.stops.between_dir.Reads as between-dir-reads
-use Rattle.seeks.proofs.seek_one.Reads as seek-one-reads
 
--- src/lib.rt:175:9
 between-dir-requires : tie.Need-between-dir-requires
 between-dir-requires c κs = search needs
 
--- src/lib.rt:176:9
 beside-requires : tie.Need-beside-requires
 beside-requires c κs = search needs
 
--- src/lib.rt:177:21
 dist-requires : tie.Need-dist-requires
 dist-requires c κs = search needs
 
--- src/lib.rt:177:16
 add-gain : tie.Need-add-gain
 add-gain c = search needs
 
--- src/lib.rt:186:5
 seek-one-requires : tie.Need-seek-one-requires
 seek-one-requires c κs = let p = (c .before .before .before .before .before .before .before .pre) in (p .1 .0, (p .1 .1 .0 .low1, (p .1 .1 .0 .low2, (omega arith, (omega arith, (record { low3 = p .1 .1 .0 .low3; low4 = p .1 .1 .0 .low4; low5 = p .1 .1 .0 .low5; low6 = (c .before .beside) .ensures .below }, p .1 .1 .1 .1))))))
 
--- src/lib.rt:147:1
 returns : tie.Need-returns
 returns c = let a = (c .before .before .before .before .before .before .before .before .args) in let b = a .best in
     let r = a .round .now in

@@ -1,0 +1,56 @@
+use mathlib.Core.Path.{_≡_}
+use Prim.Native.Nat.{_-_}
+use native.Mathlib.Omega.{arith}
+use borrow.Author.Needs.{needs}
+use lib.ListN.{length-set, length}
+use Rattle.lending.proofs.memory.clear8.Statement.{statement}
+use Rattle.lending.proofs.memory.clear8.Tie as tie
+
+abbrev Inv-loop : tie.InvT-loop
+Inv-loop words₀ from to i₀ words i = length words ≡ length words₀
+
+abbrev μ-loop : tie.MeasureT-loop
+μ-loop words₀ from to i₀ words i = to - i
+
+loop-holds : tie.Need-loop-holds Inv-loop μ-loop
+loop-holds c = search needs
+
+same-length : tie.Need-same-length Inv-loop μ-loop
+same-length c = search needs
+
+returns : tie.Need-returns Inv-loop μ-loop
+returns c = search needs
+
+slice-write-words : tie.Need-slice-write-words Inv-loop μ-loop
+slice-write-words c = search needs
+
+add-i : tie.Need-add-i Inv-loop μ-loop
+add-i c = search needs
+
+loop-less : tie.Need-loop-less Inv-loop μ-loop
+loop-less c = search needs
+
+loop-again : tie.Need-loop-again Inv-loop μ-loop
+loop-again c = simp (length-set) (omega arith)
+
+same-length-2 : tie.Need-same-length-2 Inv-loop μ-loop
+same-length-2 c = search needs
+
+returns-2 : tie.Need-returns-2 Inv-loop μ-loop
+returns-2 c = search needs
+
+pub clear8-spec : {M : Type 1} → statement M
+clear8-spec =
+    tie.close
+    (tie.spec
+    Inv-loop
+    μ-loop
+    loop-holds
+    same-length
+    returns
+    slice-write-words
+    add-i
+    loop-less
+    loop-again
+    same-length-2
+    returns-2)
