@@ -157,7 +157,7 @@ module _ (l : Lent) (c : Carried) (w : Works l c) (g : Given l) where
   good-round = rw (w .desk .round-long) (w .good)
 
   pub fits-round : Fit (planOf (length l.round) l.matrix l.k l.near l.ka l.alpha) (length l.round)
-  unfolding planIn planOf
+  unfolding planIn
   fits-round = rw (w .desk .round-long) (g .fits)
 
   pub carried-round : c.time ≡ recount (legIn (length l.round) l.matrix) l.round
@@ -167,7 +167,7 @@ module _ (l : Lent) (c : Carried) (w : Works l c) (g : Given l) where
       (step : ℕ) (keeps : Bool) (budget : ℕ) {held : ℕ} {head : Place} {count : ℕ} {time : Time} {left ended : ℕ}
       (d : Descended (descend (planOf (length l.round) l.matrix l.k l.near l.ka l.alpha) step (mannerOf keeps (length l.journal / 5)) budget (record { track = trackOf l.round l.journal c.held; queue = waiting l.queue c.head c.count; time = c.time })) keeps l.journal c.held round places queue flags journal held head count time left ended) where
     mine : Descended (descend (planIn l) step (mannerOf keeps (roomIn l)) budget (stateIn l c)) keeps l.journal c.held round places queue flags journal held head count time left ended
-    unfolding planIn planOf roomIn stateIn
+    unfolding planIn roomIn stateIn
     mine = rw (w .desk .round-long) at d
 
     ran : Ran

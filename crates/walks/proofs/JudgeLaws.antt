@@ -1,9 +1,10 @@
 -- A kick and its descent judged is the rule's turn.
-use Prim.Native.Nat.{ℕ, _+_, _≤_}
+use Prim.Native.Nat.{ℕ, _+_, _-_, _≤_}
 use mathlib.Core.Path.{_≡_, refl, sym, ap, ap₂, subst, _∙_}
 use mathlib.Core.Bool.{Bool, true, false}
 use mathlib.Core.List.{List, []}
 use native.Mathlib.Omega.{arith}
+use borrow.Author.Tests.{leb-true, le-leb, ltb-false}
 use lib.Dec.{leb, ltb}
 use lib.ListN.{length}
 use Rattle.rules.specs.Words.{Time, Round, Place}
@@ -17,15 +18,16 @@ use Rattle.rules.specs.Search.{Walk, kickedOnce}
 use Rattle.rules.specs.Calls.{settingsIn}
 use Rattle.rules.specs.Memory.{Lent, Carried, roomIn, planIn, stateIn}
 use Rattle.rules.specs.Contracts.{Tied}
-use Rattle.laws.proofs.ChoiceLaws.{either-way}
+use Rattle.laws.proofs.ChoiceLaws.{either-way, either-if, equal-tests}
 use Rattle.laws.proofs.DescendLaws.{Sound}
 use Rattle.laws.proofs.JournalLaws.{past-undone}
 use Rattle.laws.proofs.JournalWordLaws.{good-fewer}
 use Rattle.laws.proofs.PermLaws.{Perm}
 use Rattle.laws.proofs.RunLaws.{descend-queue}
 use Rattle.queue.specs.Lines.{InLine}
+use Rattle.loads.specs.Lying.{Laid}
 use Rattle.refusals.specs.Lending.{lending, carrying}
-use Rattle.walks.specs.Walking.{Tally, judged, Given, Works, Holds, Rests, walkIn, Goes, told, kindOf, kickOf, Dives, Judges}
+use Rattle.walks.specs.Walking.{Tally, tallying, judged, Given, Works, Holds, Rests, walkIn, Goes, told, kindOf, kickOf, Dives, Judges}
 use Rattle.walks.proofs.HoldLaws.{after, desk-after, given-after}
 use Rattle.walks.proofs.DiveLaws.{dive-sound, dive-past}
 
@@ -129,3 +131,27 @@ module _ (l : Lent) (best : Round) (t : Tally) (r : Rests l best t.time) (step k
 
   pub turn-goes : Goes (kickedOnce (planIn l) (told l step kind false) slack (walkIn l best t x)) (after l round places queue flags scratch journal) best′ t′ new
   turn-goes = record { is = turn-is; rests = turn-rests }
+
+-- ---- what `judge` does
+pub lesser-low : (a b : Time) → (if ltb a b then a else b) ≤ a
+lesser-low a b = either-if (λ (c : Time). c ≤ a) (ltb a b) (λ y. omega arith) (λ y. ltb-false a b y)
+
+-- within the margin, told without a sum
+accept-is : (now walk slack : ℕ) → walk ≤ now → leb (now - walk) slack ≡ leb now (walk + slack)
+accept-is now walk slack h = equal-tests (leb (now - walk) slack) (leb now (walk + slack)) (λ e. let f : now - walk ≤ slack = leb-true (now - walk) slack e in le-leb now (walk + slack) (omega arith)) (λ e. let f : now ≤ walk + slack = leb-true now (walk + slack) e in le-leb (now - walk) slack (omega arith))
+
+pub judge-done : (slack now left : ℕ) (t : Tally) (round back best round′ : Round) (places′ : List Place) (best′ : Round) (walk time₂ best₂ stale₂ fails₂ : ℕ)
+    → walk ≡ (if ltb now t.walk then now else t.walk) → best′ ≡ (if ltb now t.best then round else best) → Laid (if leb (now - walk) slack then round else back) round′ places′
+    → time₂ ≡ (if leb (now - walk) slack then now else t.time) → best₂ ≡ (if ltb now t.best then now else t.best)
+    → stale₂ ≡ (if ltb now t.walk then 0 else t.stale + 1) → fails₂ ≡ (if ltb now t.best then 0 else t.fails + 1)
+    → Judges slack now left t round back best round′ places′ best′ (tallying time₂ best₂ walk stale₂ fails₂ (t.kicks + 1) left)
+unfolding judged
+judge-done slack now left t round back best round′ places′ best′ walk time₂ best₂ stale₂ fails₂ ew eb la et e₂ es ef =
+    let low : walk ≤ now = omega (arith, lesser-low now t.walk) in
+    let ac : leb (now - walk) slack ≡ leb now ((if ltb now t.walk then now else t.walk) + slack) = accept-is now walk slack low ∙ ap (λ (z : ℕ). leb now (z + slack)) ew in
+    let tm : time₂ ≡ (if leb now ((if ltb now t.walk then now else t.walk) + slack) then now else t.time) = et ∙ ap (λ (z : Bool). (if z then now else t.time)) ac in
+    record {
+      best-is = eb;
+      laid = subst (λ (z : Bool). Laid (if z then round else back) round′ places′) ac la;
+      tally-is = λ i. record { time = tm i; best = e₂ i; walk = ew i; stale = es i; fails = ef i; kicks = t.kicks + 1; left = left };
+    }

@@ -30,7 +30,7 @@ use Rattle.loads.specs.Lying.{Lies}
 use Rattle.descent.specs.Handed.{mannerOf}
 use Rattle.refusals.specs.Lending.{lending, carrying}
 use Rattle.walks.specs.Walking.{Tally, tallying, begun, renewed, Given, Desk, Works, Holds, Rests, bare, walkIn, Goes, told, Shook, Dives}
-use Rattle.walks.proofs.HoldLaws.{after, given-after, works-full, holds-sound}
+use Rattle.walks.proofs.HoldLaws.{after, given-after, works-full, works-loaded, holds-sound}
 use Rattle.walks.proofs.JudgeLaws.{empty-loads}
 
 -- nobody waits
@@ -56,6 +56,14 @@ lies-works l d start time long k =
       good = good-all l.n l.journal 0 (omega arith) (λ i h. absurd (omega arith));
       carried = k .takes .is ∙ ap₂ (λ (m : ℕ) (u : Round). recount (legIn m l.matrix) u) long (sym (k .laid .round-is));
     }
+
+-- shaken from the round that was laid
+pub lies-shook : (l : Lent) (time : Time) (w : Works l (carrying 0 0 0 time)) (best : Round) → l.round ≡ best → (x : ℕ) {l′ : Lent} {c : Carried} {x′ : ℕ}
+    → Shook (shaken (legIn l.n l.matrix) 32 0 (stateIn l (carrying 0 0 0 time)) x) l′ c x′ → Shook (shaken (legIn l.n l.matrix) 32 0 (load (recount (legIn l.n l.matrix)) best) x) l′ c x′
+unfolding legOf planIn
+lies-shook l time w best e x {l′} {c} {x′} k =
+    let q : stateIn l (carrying 0 0 0 time) ≡ load (recount (legIn l.n l.matrix)) best = works-loaded l time w ∙ ap (load (recount (legIn l.n l.matrix))) e in
+    subst (λ (s : State). Shook (shaken (legIn l.n l.matrix) 32 0 s x) l′ c x′) q k
 
 -- ---- a committed descent leaves a loaded round
 module _ (l : Lent) (g : Given l) (step budget : ℕ) (s : State) (h : Sound (legOf (planIn l)) l.n s) where
@@ -120,7 +128,7 @@ module _ (l : Lent) (best : Round) (t : Tally) (r : Rests l best t.time) (step x
   left-is = d .left-is ∙ ap (λ (u : Ran). u .left) went-is
 
   restart-is : walkIn (after l round places queue flags scratch journal) best′ t′ x₁ ≡ restarted (planIn l) (told l step 0 false) (walkIn l best t x)
-  unfolding walkIn restarted told settingsIn shook went planIn renewed ran
+  unfolding walkIn restarted told settingsIn shook went planIn legOf renewed ran
   restart-is =
       let count : Round → Time = recount (legOf (planIn l)) in
       let z : t′ ≡ renewed (went .state .time) (went .left) t = et ∙ ap₂ (λ (a b : ℕ). renewed a b t) time-is left-is in

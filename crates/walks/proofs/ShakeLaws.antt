@@ -56,8 +56,8 @@ module _ (d : Legs) (t : Track) where
   kick-short x = go (ltb (longest (length t.round)) 2) refl (draws (spans (length t.round) 0) x .values) (kick-draws (length t.round) 0 x)
     where
       go : (c : Bool) → ltb (longest (length t.round)) 2 ≡ c → (vs : List ℕ)
-          → InSpans (elim (if c then 2 else 0) as (λ m. List Span) [ zero ↦ (1 to longest (length t.round)) ∷ (1 to longest (length t.round)) ∷ (1 to longest (length t.round)) ∷ (0 to (length t.round - 1)) ∷ [] | suc k ↦ if eqb k 0 then ((1 to longest (length t.round)) ∷ (1 to longest (length t.round)) ∷ (0 to (length t.round - 1)) ∷ []) else globalSpans (length t.round) ]) vs
-          → length (elim (if c then 2 else 0) as (λ m. Kicked) [ zero ↦ segmentKick d (at vs 0) (at vs 1) (at vs 2) (at vs 3) t | suc k ↦ if eqb k 0 then segmentKick d (at vs 0) 0 (at vs 1) (at vs 2) t else globalKick d vs t ] .track .journal) ≤ length t.journal + 5
+          → InSpans (elim (if_then_else_ {A = ℕ} c 2 0) as (λ m. List Span) [ zero ↦ (1 to longest (length t.round)) ∷ (1 to longest (length t.round)) ∷ (1 to longest (length t.round)) ∷ (0 to (length t.round - 1)) ∷ [] | suc k ↦ if eqb k 0 then ((1 to longest (length t.round)) ∷ (1 to longest (length t.round)) ∷ (0 to (length t.round - 1)) ∷ []) else globalSpans (length t.round) ]) vs
+          → length (elim (if_then_else_ {A = ℕ} c 2 0) as (λ m. Kicked) [ zero ↦ segmentKick d (at vs 0) (at vs 1) (at vs 2) (at vs 3) t | suc k ↦ if eqb k 0 then segmentKick d (at vs 0) 0 (at vs 1) (at vs 2) t else globalKick d vs t ] .track .journal) ≤ length t.journal + 5
       go true e vs f = global-few vs (six (length t.round) e) f
       go false e vs f = segment-few (at vs 0) (at vs 1) (at vs 2) (at vs 3)
 
@@ -86,7 +86,7 @@ module _ (l : Lent) (c : Carried) (x : ℕ) {l′ : Lent} {c′ : Carried} {x′
 
   shook-step : (m : ℕ) → shaken (legIn l.n l.matrix) (suc m) 0 (stateIn l c) x ≡ shaken (legIn l.n l.matrix) m 0 (stateIn l′ c′) x′
   unfolding shaken
-  shook-step m = λ i. shaken (legIn l.n l.matrix) m 0 (k .holds .is (~ i)) (k .draw-is (~ i))
+  shook-step m = sym (λ i. shaken (legIn l.n l.matrix) m 0 (k .holds .is i) (k .draw-is i))
 
   pub shaking-turn : (goal : Shaken) (i : ℕ) → l′ .n ≡ l.n → l′ .matrix ≡ l.matrix → i < 32 → Shaking goal l c x i → Shaking goal l′ c′ x′ (i + 1)
   shaking-turn goal i en em h s =

@@ -13,12 +13,14 @@ use Rattle.rules.specs.Words.{Time, Round, Place}
 use Rattle.rules.specs.Lists.{if_then_else_}
 use Rattle.rules.specs.Ring.{recount}
 use Rattle.rules.specs.Plan.{Plan, legOf}
+use Rattle.rules.specs.Draws.{drawn, moved}
+use Rattle.rules.specs.Descend.{kept, committed, descend}
 use Rattle.rules.specs.State.{State, load}
 use Rattle.rules.specs.Start.{startRound}
-use Rattle.rules.specs.Search.{Settings, Walk, Answer, margin, restartAfter, stopAfter, kickedOnce, restarted, turned, turns, searchFrom, search}
+use Rattle.rules.specs.Search.{Settings, Walk, Answer, margin, restartAfter, stopAfter, shaken, kickedOnce, restarted, turned, turns, searchFrom, search}
 use Rattle.rules.specs.Memory.{Lent, roomIn, planIn}
 use Rattle.rules.specs.Calls.{settingsIn}
-use Rattle.laws.proofs.ChoiceLaws.{either-way}
+use Rattle.laws.proofs.ChoiceLaws.{either-way, true-false}
 use Rattle.laws.proofs.SearchLaws.{Walks, Took, turn-took}
 use Rattle.laws.proofs.StateLaws.{load-stands}
 use Rattle.laws.proofs.TiedLaws.{tied-perm}
@@ -36,14 +38,22 @@ rests-walks l best t x r =
       best-size = r .best-long;
     }
 
+pick-first : (b : Bool) (x y : Walk) → b ≡ true → (elim b as (λ z. Walk) [ true ↦ x | false ↦ y ]) ≡ x
+pick-first true x y e = refl
+pick-first false x y e = absurd (true-false (sym e))
+
+pick-second : (b : Bool) (x y : Walk) → b ≡ false → (elim b as (λ z. Walk) [ true ↦ x | false ↦ y ]) ≡ y
+pick-second true x y e = absurd (true-false e)
+pick-second false x y e = refl
+
 -- a kick where no restart is due
 pub turned-kick : (p : Plan) (o : Settings) (slack : Time) (w : Walk) → w.walkFails < o.restart → turned p o slack w ≡ kickedOnce p o slack w
 unfolding turned
-turned-kick p o slack w h = rw (lt-ltb w.walkFails o.restart h) refl
+turned-kick p o slack w h = pick-first (ltb w.walkFails o.restart) (kickedOnce p o slack w) (restarted p o w) (lt-ltb w.walkFails o.restart h)
 
 pub turned-restart : (p : Plan) (o : Settings) (slack : Time) (w : Walk) → o.restart ≤ w.walkFails → turned p o slack w ≡ restarted p o w
 unfolding turned
-turned-restart p o slack w h = rw (le-ltb w.walkFails o.restart h) refl
+turned-restart p o slack w h = pick-second (ltb w.walkFails o.restart) (kickedOnce p o slack w) (restarted p o w) (le-ltb w.walkFails o.restart h)
 
 -- a restart asks no kind
 pub restarted-kind : (p : Plan) (l : Lent) (step kind : ℕ) (w : Walk) → restarted p (told l step 0 false) w ≡ restarted p (told l step kind false) w
@@ -64,13 +74,35 @@ module _ (p : Plan) (o : Settings) (slack : Time) (w : Walk) where
   within-same : (b : Bool) (m : ℕ) → (if b then 0 else m) ≤ m + 1
   within-same b m = either-way (λ (z : ℕ). z ≤ m + 1) b (omega arith) (omega arith)
 
+  kick-time : Time
+  kick-time = descend p o.step (kept o.room) w.left (shaken (legOf p) 1 (if eqb (drawn 0 (o.oneIn - 1) (moved w.draw)) 0 then 2 else o.kind) w.state (moved w.draw) .state) .state .time
+
+  restart-time : Time
+  restart-time = descend p o.step committed w.left (shaken (legOf p) 32 0 (load (recount (legOf p)) w.best) w.draw .state) .state .time
+
+  kicked-stale : kickedOnce p o slack w .walkFails ≤ w.walkFails + 1
+  unfolding kickedOnce kick-time
+  kicked-stale = within (ltb kick-time w.walkBest) w.walkFails
+
+  kicked-fails : kickedOnce p o slack w .fails ≤ w.fails + 1
+  unfolding kickedOnce kick-time
+  kicked-fails = within (ltb kick-time w.bestTime) w.fails
+
+  restarted-fails : restarted p o w .fails ≤ w.fails + 1
+  unfolding restarted restart-time
+  restarted-fails = within-same (ltb restart-time w.bestTime) w.fails
+
+  restarted-stale : restarted p o w .walkFails ≤ w.walkFails + 1
+  unfolding restarted
+  restarted-stale = omega arith
+
   turned-stale : turned p o slack w .walkFails ≤ w.walkFails + 1
-  unfolding turned kickedOnce restarted
-  turned-stale = either-way (λ (v : Walk). v.walkFails ≤ w.walkFails + 1) (ltb w.walkFails o.restart) (within _ w.walkFails) (omega arith)
+  unfolding turned
+  turned-stale = either-way (λ (v : Walk). v.walkFails ≤ w.walkFails + 1) (ltb w.walkFails o.restart) {x = kickedOnce p o slack w} {y = restarted p o w} kicked-stale restarted-stale
 
   turned-fails : turned p o slack w .fails ≤ w.fails + 1
-  unfolding turned kickedOnce restarted
-  turned-fails = either-way (λ (v : Walk). v.fails ≤ w.fails + 1) (ltb w.walkFails o.restart) (within _ w.fails) (within-same _ w.fails)
+  unfolding turned
+  turned-fails = either-way (λ (v : Walk). v.fails ≤ w.fails + 1) (ltb w.walkFails o.restart) {x = kickedOnce p o slack w} {y = restarted p o w} kicked-fails restarted-fails
 
   turned-kicks : turned p o slack w .kicks ≤ w.kicks + 1
   unfolding turned kickedOnce restarted
@@ -83,6 +115,7 @@ pub record Going (p : Plan) (o : Settings) (slack : Time) (goal w : Walk) : Type
   pub is : turns p o slack fuel w ≡ goal
 
 both-false : (a b : Bool) → (a || b) ≡ false → (a ≡ false) × (b ≡ false)
+both-false true b e = absurd (true-false e)
 both-false false b e = (refl, e)
 
 left-some : (o : Settings) (w : Walk) → over o.stop o.limit w.left w.fails ≡ false → 0 < w.left
@@ -101,6 +134,7 @@ module _ (p : Plan) (o : Settings) (slack : Time) (goal w : Walk) where
       ends : (a b : Bool) → (a || b) ≡ true → (fuel : ℕ) → (elim a as (λ z. Walk) [ true ↦ w | false ↦ elim b as (λ z. Walk) [ true ↦ w | false ↦ turns p o slack fuel (turned p o slack w) ] ]) ≡ goal → w ≡ goal
       ends true b e fuel k = k
       ends false true e fuel k = k
+      ends false false e fuel k = absurd (true-false (sym e))
 
       go : (fuel : ℕ) → turns p o slack fuel w ≡ goal → w ≡ goal
       go zero k = k
@@ -113,9 +147,8 @@ module _ (p : Plan) (o : Settings) (slack : Time) (goal w : Walk) where
       step : (fuel : ℕ) → turns p o slack (suc fuel) w ≡ goal → turns p o slack fuel (turned p o slack w) ≡ goal
       step fuel k =
           let q = both-false (eqb w.left 0) (o.stop && leb o.limit w.fails) e in
-          let a : eqb w.left 0 ≡ false = q .0 in
-          let b : (o.stop && leb o.limit w.fails) ≡ false = q .1 in
-          rw (a, b) at k
+          let rest : Walk = turns p o slack fuel (turned p o slack w) in
+          sym (pick-second (eqb w.left 0) w (elim (o.stop && leb o.limit w.fails) as (λ z. Walk) [ true ↦ w | false ↦ rest ]) (q .0) ∙ pick-second (o.stop && leb o.limit w.fails) w rest (q .1)) ∙ k
 
       go : (fuel : ℕ) → w.left ≤ fuel → turns p o slack fuel w ≡ goal → Going p o slack goal (turned p o slack w)
       go zero l k = absurd (omega (arith, left-some o w e))
