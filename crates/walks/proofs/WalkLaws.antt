@@ -234,3 +234,13 @@ pub walking-done : (l₀ : Lent) (step kind : ℕ) (stop : Bool) (slack : Time) 
     → Walking l₀ (told l₀ step kind stop) slack goal l best t x → Goes goal l best t x
 unfolding walkIn told settingsIn
 walking-done l₀ step kind stop slack goal l best t x e w = record { is = going-over (planIn l₀) (told l₀ step kind stop) slack goal (walkIn l best t x) e (w .going); rests = w .rests }
+
+-- ---- a turn by what is due
+module _ (l : Lent) (best : Round) (t : Tally) (x step kind : ℕ) (slack : Time) (due : ℕ) (e : due ≡ restartAfter l.n) {l′ : Lent} {best′ : Round} {t′ : Tally} {x′ : ℕ} where
+  pub turn-kicks : t.stale < due → Goes (kickedOnce (planIn l) (told l step kind false) slack (walkIn l best t x)) l′ best′ t′ x′ → Goes (turned (planIn l) (told l step kind false) slack (walkIn l best t x)) l′ best′ t′ x′
+  unfolding walkIn told settingsIn
+  turn-kicks h g = subst (λ (w : Walk). Goes w l′ best′ t′ x′) (sym (turned-kick (planIn l) (told l step kind false) slack (walkIn l best t x) (omega (arith, e)))) g
+
+  pub turn-restarts : due ≤ t.stale → Goes (restarted (planIn l) (told l step 0 false) (walkIn l best t x)) l′ best′ t′ x′ → Goes (turned (planIn l) (told l step kind false) slack (walkIn l best t x)) l′ best′ t′ x′
+  unfolding walkIn told settingsIn
+  turn-restarts h g = subst (λ (w : Walk). Goes w l′ best′ t′ x′) (restarted-kind (planIn l) l step kind (walkIn l best t x) ∙ sym (turned-restart (planIn l) (told l step kind false) slack (walkIn l best t x) (omega (arith, e)))) g

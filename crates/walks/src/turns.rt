@@ -185,6 +185,66 @@ fn judge(
     }
 }
 
+// A turn with a kick.
+fn kick_turn(
+    n: usize,
+    k: usize,
+    ka: usize,
+    matrix: &[u16],
+    near: &[u32],
+    alpha: &[u32],
+    round: &mut [u32],
+    places: &mut [u32],
+    queue: &mut [u32],
+    flags: &mut [u8],
+    scratch: &mut [u32],
+    journal: &mut [u32],
+    best: &mut [u32],
+    state: &mut u64,
+    t: Tally,
+    slack: u32,
+    step: u32,
+    kind: u32,
+) -> Tally
+    requires { ⌜ Rests (lending n k ka (now matrix) (now near) (now alpha) (now round) (now places) (now queue) (now flags) (now scratch) (now journal)) (now best) (t .time) ⌝ }
+    requires { ⌜ (t .stale < 4294967295) × ((t .fails < 4294967295) × (t .kicks < 4294967295)) ⌝ }
+    requires { ⌜ step ≤ 2 ⌝ }
+    requires { ⌜ kind ≤ 2 ⌝ }
+    ensures { λ r. ⌜ Goes (kickedOnce (planIn (lending n k ka (now (matrix .entry)) (now (near .entry)) (now (alpha .entry)) (now (round .entry)) (now (places .entry)) (now (queue .entry)) (now (flags .entry)) (now (scratch .entry)) (now (journal .entry)))) (told (lending n k ka (now (matrix .entry)) (now (near .entry)) (now (alpha .entry)) (now (round .entry)) (now (places .entry)) (now (queue .entry)) (now (flags .entry)) (now (scratch .entry)) (now (journal .entry))) step kind false) slack (walkIn (lending n k ka (now (matrix .entry)) (now (near .entry)) (now (alpha .entry)) (now (round .entry)) (now (places .entry)) (now (queue .entry)) (now (flags .entry)) (now (scratch .entry)) (now (journal .entry))) (now (best .entry)) (tallying (t .time) (t .best) (t .walk) (t .stale) (t .fails) (t .kicks) (t .left)) (now (state .entry)))) (lending n k ka (now (matrix .entry)) (now (near .entry)) (now (alpha .entry)) (now (round .exit)) (now (places .exit)) (now (queue .exit)) (now (flags .exit)) (now (scratch .exit)) (now (journal .exit))) (now (best .exit)) (tallying (r .time) (r .best) (r .walk) (r .stale) (r .fails) (r .kicks) (r .left)) (now (state .exit)) ⌝ }
+{
+    let d = kick_and_descend(
+        n,
+        k,
+        ka,
+        matrix,
+        near,
+        alpha,
+        round,
+        places,
+        queue,
+        flags,
+        scratch,
+        journal,
+        state,
+        t.time,
+        step,
+        kind,
+        t.left,
+    );
+    judge(
+        round,
+        places,
+        scratch,
+        journal,
+        best,
+        t,
+        slack,
+        d.held,
+        d.time,
+        d.left,
+    )
+}
+
 // 32 kicks of kind 0, one after another.
 fn shake(
     n: usize,
@@ -256,5 +316,141 @@ fn reshape(
         journal,
         state,
         time,
+    )
+}
+
+// A turn with a restart: no kick is counted, and the new walk has its own record.
+fn restart(
+    n: usize,
+    k: usize,
+    ka: usize,
+    matrix: &[u16],
+    near: &[u32],
+    alpha: &[u32],
+    round: &mut [u32],
+    places: &mut [u32],
+    queue: &mut [u32],
+    flags: &mut [u8],
+    scratch: &mut [u32],
+    journal: &mut [u32],
+    best: &mut [u32],
+    state: &mut u64,
+    t: Tally,
+    step: u32,
+) -> Tally
+    requires { ⌜ Rests (lending n k ka (now matrix) (now near) (now alpha) (now round) (now places) (now queue) (now flags) (now scratch) (now journal)) (now best) (t .time) ⌝ }
+    requires { ⌜ step ≤ 2 ⌝ }
+    ensures { λ r. ⌜ Goes (restarted (planIn (lending n k ka (now (matrix .entry)) (now (near .entry)) (now (alpha .entry)) (now (round .entry)) (now (places .entry)) (now (queue .entry)) (now (flags .entry)) (now (scratch .entry)) (now (journal .entry)))) (told (lending n k ka (now (matrix .entry)) (now (near .entry)) (now (alpha .entry)) (now (round .entry)) (now (places .entry)) (now (queue .entry)) (now (flags .entry)) (now (scratch .entry)) (now (journal .entry))) step 0 false) (walkIn (lending n k ka (now (matrix .entry)) (now (near .entry)) (now (alpha .entry)) (now (round .entry)) (now (places .entry)) (now (queue .entry)) (now (flags .entry)) (now (scratch .entry)) (now (journal .entry))) (now (best .entry)) (tallying (t .time) (t .best) (t .walk) (t .stale) (t .fails) (t .kicks) (t .left)) (now (state .entry)))) (lending n k ka (now (matrix .entry)) (now (near .entry)) (now (alpha .entry)) (now (round .exit)) (now (places .exit)) (now (queue .exit)) (now (flags .exit)) (now (scratch .exit)) (now (journal .exit))) (now (best .exit)) (tallying (r .time) (r .best) (r .walk) (r .stale) (r .fails) (r .kicks) (r .left)) (now (state .exit)) ⌝ }
+{
+    let at = reshape(
+        n,
+        matrix,
+        round,
+        places,
+        queue,
+        flags,
+        scratch,
+        journal,
+        best,
+        state,
+    );
+    let d = descend(
+        matrix,
+        near,
+        k,
+        alpha,
+        ka,
+        round,
+        places,
+        scratch,
+        queue,
+        flags,
+        journal,
+        at.held,
+        at.line,
+        step,
+        false,
+        t.left,
+        at.time,
+    );
+    keep_best(d.time < t.best, round, best);
+    Tally {
+        time: d.time,
+        best: lesser(d.time, t.best),
+        walk: d.time,
+        stale: 0,
+        fails: counted(d.time < t.best, t.fails),
+        kicks: t.kicks,
+        left: d.left,
+    }
+}
+
+// A restart where one is due, else a kick.
+pub fn turn(
+    n: usize,
+    k: usize,
+    ka: usize,
+    matrix: &[u16],
+    near: &[u32],
+    alpha: &[u32],
+    round: &mut [u32],
+    places: &mut [u32],
+    queue: &mut [u32],
+    flags: &mut [u8],
+    scratch: &mut [u32],
+    journal: &mut [u32],
+    best: &mut [u32],
+    state: &mut u64,
+    t: Tally,
+    slack: u32,
+    step: u32,
+    kind: u32,
+) -> Tally
+    requires { ⌜ Rests (lending n k ka (now matrix) (now near) (now alpha) (now round) (now places) (now queue) (now flags) (now scratch) (now journal)) (now best) (t .time) ⌝ }
+    requires { ⌜ Counts (tallying (t .time) (t .best) (t .walk) (t .stale) (t .fails) (t .kicks) (t .left)) ⌝ }
+    requires { ⌜ 0 < t .left ⌝ }
+    requires { ⌜ step ≤ 2 ⌝ }
+    requires { ⌜ kind ≤ 2 ⌝ }
+    ensures { λ r. ⌜ Goes (turned (planIn (lending n k ka (now (matrix .entry)) (now (near .entry)) (now (alpha .entry)) (now (round .entry)) (now (places .entry)) (now (queue .entry)) (now (flags .entry)) (now (scratch .entry)) (now (journal .entry)))) (told (lending n k ka (now (matrix .entry)) (now (near .entry)) (now (alpha .entry)) (now (round .entry)) (now (places .entry)) (now (queue .entry)) (now (flags .entry)) (now (scratch .entry)) (now (journal .entry))) step kind false) slack (walkIn (lending n k ka (now (matrix .entry)) (now (near .entry)) (now (alpha .entry)) (now (round .entry)) (now (places .entry)) (now (queue .entry)) (now (flags .entry)) (now (scratch .entry)) (now (journal .entry))) (now (best .entry)) (tallying (t .time) (t .best) (t .walk) (t .stale) (t .fails) (t .kicks) (t .left)) (now (state .entry)))) (lending n k ka (now (matrix .entry)) (now (near .entry)) (now (alpha .entry)) (now (round .exit)) (now (places .exit)) (now (queue .exit)) (now (flags .exit)) (now (scratch .exit)) (now (journal .exit))) (now (best .exit)) (tallying (r .time) (r .best) (r .walk) (r .stale) (r .fails) (r .kicks) (r .left)) (now (state .exit)) ⌝ }
+{
+    if t.stale < restart_after(n) {
+        return kick_turn(
+            n,
+            k,
+            ka,
+            matrix,
+            near,
+            alpha,
+            round,
+            places,
+            queue,
+            flags,
+            scratch,
+            journal,
+            best,
+            state,
+            t,
+            slack,
+            step,
+            kind,
+        );
+    }
+    restart(
+        n,
+        k,
+        ka,
+        matrix,
+        near,
+        alpha,
+        round,
+        places,
+        queue,
+        flags,
+        scratch,
+        journal,
+        best,
+        state,
+        t,
+        step,
     )
 }
