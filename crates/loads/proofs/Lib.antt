@@ -1,2 +1,2 @@
 mod LayLaws
-mod UndoLaws
+pub mod UndoLaws
