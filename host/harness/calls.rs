@@ -216,7 +216,7 @@ fn shown(lent: &Lent, every: bool) -> Shown {
 }
 
 /// The words that a call writes.
-fn take_over(ours: &mut Lent, rust: &Lent) {
+pub fn take_over(ours: &mut Lent, rust: &Lent) {
     ours.round.clone_from(&rust.round);
     ours.places.clone_from(&rust.places);
     ours.queue.clone_from(&rust.queue);
@@ -227,7 +227,8 @@ fn take_over(ours: &mut Lent, rust: &Lent) {
     ours.draw = rust.draw;
 }
 
-fn copy(lent: &Lent) -> Lent {
+/// All that is lent.
+pub fn copy(lent: &Lent) -> Lent {
     let mut copy = Lent {
         n: lent.n,
         k: lent.k,

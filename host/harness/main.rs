@@ -37,7 +37,7 @@ const USAGE: &str =
        harness kicks SEED COUNT [--n LO HI]    2 to 4096 stops, by itself 2 to 140
        harness descents SEED COUNT [--n LO HI] 2 to 4096 stops, by itself 2 to 140
        harness calls SEED COUNT [--n LO HI]    2 to 4096 stops, by itself 2 to 40
-       harness speed";
+       harness speed [descents]";
 
 #[cfg(not(emulated))]
 fn main() {
@@ -70,6 +70,7 @@ fn run(words: &[&str]) -> Result<bool, String> {
         ["descents", rest @ ..] => compared("descents", rest, (2, 140), 4096, calls::descents),
         ["calls", rest @ ..] => compared("calls", rest, (2, 40), 4096, calls::scripts),
         ["speed"] => Ok(speed::measure()),
+        ["speed", "descents"] => Ok(speed::descents()),
         _ => Err("no such command".to_string()),
     }
 }

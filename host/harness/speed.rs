@@ -1,9 +1,12 @@
 //! User time of the proved functions and of the Rust's, in turn on the same matrices; rounds compared first.
 
 use crate::chance::Chance;
+use crate::calls;
 use crate::exact::{UNREACHED, room};
+use crate::lent::{ENTRY, Lent};
 use crate::probe;
 use crate::shapes::{self, Shape};
+use crate::tsp::local_search::calls as oracle;
 use crate::tsp::{
     Budget, DistMatrix, greedy_nearest_neighbor, nearest_neighbor_tour, solve_tsp_exact,
 };
@@ -74,6 +77,84 @@ pub fn measure() -> bool {
             rust,
         );
     }
+    alike & descents()
+}
+
+/// The descents alone.
+pub fn descents() -> bool {
+    let (mut chance, mut alike) = (Chance::new(1), true);
+    println!(
+        "\ndescents: every stop waits, each step kind, committed, enough units; in every call each side copies a round of stops in any order"
+    );
+    println!(
+        "and its queue. Ours is a public call, which checks all that is lent: the time of a commit, which checks the same, is taken off\n"
+    );
+    for n in [128, 1000] {
+        let begin = every_stop_waits(&mut chance, n);
+        for (step, name) in ["Lk", "Lk3", "Lk3Only"].into_iter().enumerate() {
+            alike &= descent(&format!("descent, n {n}, {name}"), &begin, step as u32);
+        }
+    }
+    alike
+}
+
+/// A loaded round of stops in any order, all of which wait.
+fn every_stop_waits(chance: &mut Chance, n: usize) -> Lent {
+    let mut lent = Lent::default();
+    lent.set_stops(n);
+    (lent.k, lent.ka) = (8, 5);
+    lent.matrix = shapes::matrix(chance, Shape::Even, n, true);
+    lent.near = shapes::near(chance, &lent.matrix, n, lent.k);
+    lent.alpha = shapes::alpha(chance, &lent.matrix, n, lent.ka);
+    lent.journal = vec![0; 512 * ENTRY];
+    lent.draw = 1;
+    let mut start: Vec<u32> = (0..n as u32).collect();
+    chance.shuffle(&mut start);
+    assert_eq!(oracle::load(&mut lent, &start).number, 0);
+    lent.queue.copy_from_slice(&start);
+    lent.flags.fill(1);
+    lent.state.count = n;
+    lent
+}
+
+/// Compares the rounds of a descent, then times the calls and prints a line.
+fn descent(name: &str, begin: &Lent, step: u32) -> bool {
+    let mut ours = calls::copy(begin);
+    let mut again = calls::copy(begin);
+    let mut descends = || {
+        calls::take_over(&mut ours, begin);
+        assert_eq!(probe::descend(&mut ours, false, step, u32::MAX).number, 0);
+        ours.round.clone()
+    };
+    let mut checks = || {
+        calls::take_over(&mut again, begin);
+        assert_eq!(probe::commit(&mut again).number, 0);
+        again.round.clone()
+    };
+    let mut alike = false;
+    oracle::descents_alone(begin, step, |rust| {
+        alike = descends() == rust();
+        if !alike {
+            println!("{name:34} the rounds differ");
+            return;
+        }
+        let mut rust = || rust();
+        let calls = (TURN / turn(3, &mut rust).max(1e-9)) as usize + 1;
+        let (mut whole, mut checked, mut rusts) = (f64::MAX, f64::MAX, f64::MAX);
+        for _ in 0..TURNS {
+            whole = whole.min(turn(calls, &mut descends));
+            checked = checked.min(turn(calls, &mut checks));
+            rusts = rusts.min(turn(calls, &mut rust));
+        }
+        let least = whole - checked;
+        println!(
+            "{name:34} {:>9.3} ms {:>9.3} ms {:>6.2}  (checks {:.3} ms)",
+            least * 1e3,
+            rusts * 1e3,
+            least / rusts,
+            checked * 1e3
+        );
+    });
     alike
 }
 

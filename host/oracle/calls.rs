@@ -67,6 +67,17 @@ pub fn descend(lent: &mut Lent, kept: bool, step: u32, budget: u32) -> Answer {
     }
 }
 
+/// Committed descents from what is lent, without checks, the plan made once: hands a function that runs one and gives its round.
+pub fn descents_alone(lent: &Lent, step: u32, run: impl FnOnce(&mut dyn FnMut() -> Vec<u32>)) {
+    let (dists, nn) = plan(lent);
+    run(&mut || {
+        let mut opt = opt_of(lent, &dists, &nn);
+        opt.step = step_of(step);
+        opt.descend(&Budget::new(u32::MAX, lent.room()), false);
+        opt.tour
+    });
+}
+
 /// Empties the journal and keeps the queue.
 pub fn commit(lent: &mut Lent) -> Answer {
     let number = checks::settle(lent);
