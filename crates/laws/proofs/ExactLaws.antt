@@ -16,13 +16,27 @@ use Rattle.laws.proofs.InLaws.{In, top, down, in_some, in_past, Up, up_rising, u
 use Rattle.laws.proofs.WithoutLaws.{without_first}
 use Rattle.laws.proofs.OrderLaws.{Order, none, next, order_length, order_self, later, order_round, round_order, before_self, before_before, Sorted, round_in, in_round, rounds_sorted}
 
+head_of : List Stop → Stop
+head_of [] = 0
+head_of (a ∷ p) = a
+
+tail_of : List Stop → List Stop
+tail_of [] = []
+tail_of (a ∷ p) = p
+
+before_and_after : {p q r s : List Stop} → Before p q → Before r s → p ≡ s → q ≡ r → p ≡ q
+unfolding head_of tail_of
+before_and_after same h e f = refl
+before_and_after (less l) same e f = absurd (omega (arith, ap length e))
+before_and_after (less l) (less k) e f = absurd (omega (arith, ap head_of e, ap head_of f))
+before_and_after (less l) (more k) e f = absurd (omega (arith, ap head_of e, ap head_of f))
+before_and_after (more h) same e f = absurd (omega (arith, ap length e))
+before_and_after (more h) (less k) e f = absurd (omega (arith, ap head_of e, ap head_of f))
+before_and_after (more {a = a} h) (more k) e f = ap (λ (t : List Stop). a ∷ t) (before_and_after h k (ap tail_of e) (ap tail_of f))
+
 -- of two lists of which each stands before the other, or is it, both are one
 pub before_both : {p q : List Stop} → Before p q → Before q p → p ≡ q
-before_both same h = refl
-before_both (less l) (less l') = absurd (omega arith)
-before_both (less l) (more h) = absurd (omega arith)
-before_both (more h) (less l) = absurd (omega arith)
-before_both (more {a = a} h) (more h') = ap (λ (t : List Stop). a ∷ t) (before_both h h')
+before_both h k = before_and_after h k refl refl
 
 -- "the first, in dictionary order, of the cheapest rounds from stop 0" is one round
 pub exact_unique : {d : Legs} {n : ℕ} {r q : Round} → Exact d n r → Exact d n q → r ≡ q
@@ -144,6 +158,7 @@ module _ (d : Legs) where
 order_first : (i : ℕ) (l o : List Stop) → Up i l → Order l o → Before l o
 order_first i [] [] u none = same
 order_first i [] (v ∷ o) u (next h k) = absurd (omega (arith, in_some h))
+order_first i (x ∷ l) [] u h = elim h [ ]
 order_first i (x ∷ l) (v ∷ o) u (next h k) =
     elim (ℕ_discrete x v) [
       | yes e ↦

@@ -34,6 +34,10 @@ module _ {A : Type 0} where
   in_either (y ∷ l) top = inl top
   in_either (y ∷ l) (down h) = ⊎_elim (λ z. inl (down z)) (λ z. inr z) (in_either l h)
 
+  first_or_rest : {x y : A} {l : List A} → In x (y ∷ l) → (x ≡ y) ⊎ In x l
+  first_or_rest top = inl refl
+  first_or_rest (down h) = inr h
+
   -- one more behind the first
   pub in_past : {x s : A} (y : A) {l : List A} → In x (s ∷ l) → In x (s ∷ y ∷ l)
   in_past y top = top
@@ -85,8 +89,7 @@ module _ {A B : Type 0} where
 
   pub map_in : (f : A → B) {y : B} (l : List A) → In y (map f l) → (x : A) × In x l × (y ≡ f x)
   map_in f [] h = absurd (omega (arith, in_some h))
-  map_in f (x ∷ l) top = (x, top, refl)
-  map_in f (x ∷ l) (down h) = let r = map_in f l h in (r.0, down r.1, r.2)
+  map_in f (x ∷ l) h = ⊎_elim (λ e. (x, top, e)) (λ z. let r = map_in f l z in (r.0, down r.1, r.2)) (first_or_rest h)
 
   pub in_each : (f : A → List B) {x : A} {y : B} {l : List A} → In x l → In y (f x) → In y (each f l)
   unfolding each

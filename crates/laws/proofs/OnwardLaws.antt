@@ -66,6 +66,7 @@ module _ (d : Legs) where
 
   least_le : (k : Stop) (so : Time) (os : List (List Stop)) {o : List Stop} → In o os → least_of d k so os ≤ homeward d k o
   unfolding least_of homeward
+  least_le k so [] h = elim h [ ]
   least_le k so (o ∷ os) top = omega (arith, least_low k (min so (along d k (o ++ (0 ∷ [])))) os)
   least_le k so (p ∷ os) (down h) = least_le k (min so (along d k (p ++ (0 ∷ [])))) os h
 

@@ -30,12 +30,14 @@ first_held true k cs e = (refl, e)
 first_held false k cs e = absurd (omega arith)
 
 fails_above : (low : ℕ) (cs : List Check) (k : ℕ) → Rises low cs → Fails cs k → low ≤ k
+fails_above low [] k _ f = elim f [ ]
 fails_above low (c ∷ cs) k (above {k = j} h r) (this e) = h
 fails_above low (c ∷ cs) k (above {k = j} h r) (later f) = omega (arith, fails_above (suc j) cs k r f)
 
 -- 0: none fails
 pub none_fails : (low : ℕ) (cs : List Check) → Rises (suc low) cs → verdict cs ≡ 0 → (k : ℕ) → Fails cs k → ⊥
 unfolding verdict
+none_fails low [] _ e k f = elim f [ ]
 none_fails low (c ∷ cs) (above {ok = true} {k = j} h r) e k (this q) = absurd (true_false q)
 none_fails low (c ∷ cs) (above {ok = true} {k = j} h r) e k (later f) = none_fails j cs r e k f
 none_fails low (c ∷ cs) (above {ok = false} {k = j} h r) e k f = absurd (omega arith)
@@ -53,6 +55,7 @@ first_fails low (c ∷ cs) (above {ok = false} {k = j} g r) h = (this refl, λ i
 
 -- what each check's failing gives
 pub fails_give : (P : ℕ → Type 0) (cs : List Check) → All (λ c. c.ok ≡ false → P c.number) cs → (k : ℕ) → Fails cs k → P k
+fails_give P [] _ k f = elim f [ ]
 fails_give P (c ∷ cs) (more f a) k (this e) = f e
 fails_give P (c ∷ cs) (more f a) k (later g) = fails_give P cs a k g
 
