@@ -1,4 +1,7 @@
 // 01, "Sheets": the answer, written into lent bytes.
+
+#![tactic(auto)]
+
 ghost use Rattle.std.specs.Prelude.{ℕ, ◌+◌, ◌*◌, ◌/◌, ◌<◌, ◌≤◌, length};
 ghost use Rattle.rules.specs.Lists.{each};
 ghost use Rattle.rules.specs.Bits.{bits, bytes_of};

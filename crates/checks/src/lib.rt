@@ -1,4 +1,7 @@
 // What number 7 asks of lent memory: each check says true exactly where the rule does.
+
+#![tactic(auto)]
+
 ghost use Rattle.std.specs.Prelude.{◌≡◌, ◌&&◌, [], ℕ, ◌+◌, ◌*◌, ◌<◌, ◌≤◌, leb, eqb, length, take};
 ghost use Rattle.rules.specs.Lists.{at, same};
 ghost use Rattle.rules.specs.Ring.{places_of, is_round as is_round_of, recount};

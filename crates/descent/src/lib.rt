@@ -1,4 +1,7 @@
 // `descend`: stops are taken while some wait, a unit is left and, in a kept descent, the journal has room for a step.
+
+#![tactic(auto)]
+
 ghost use Rattle.std.specs.Prelude.{◌≡◌, true, false, ℕ, ◌-◌, ◌/◌, ◌<◌, ◌≤◌, ltb, length};
 ghost use Rattle.rules.specs.Lists.{if◌then◌else◌};
 ghost use Rattle.rules.specs.Ring.{recount};

@@ -1,4 +1,7 @@
 // The draws: Marsaglia's 64-bit xorshift, and a number from low to high.
+
+#![tactic(auto)]
+
 ghost use Rattle.std.specs.Prelude.{◌≤◌};
 ghost use Rattle.draws.specs.Promises.{Stepped, Picked, Drew};
 

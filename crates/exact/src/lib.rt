@@ -1,5 +1,8 @@
 // The exact round: the subset table, and the walk back through it. Row s of the table is for a set of the stops 1 to n-1, stop k in it
 // where bit k-1 of s is set; its word of stop k is what the cheapest walk from k through the others of the set and home takes.
+
+#![tactic(auto)]
+
 ghost use Rattle.std.specs.Prelude.{◌≡◌, ◌+◌, ◌-◌, ◌*◌, ◌^◌, ◌<◌, ◌≤◌, ◌&&◌, eqb, leb, length};
 ghost use Rattle.rules.specs.Lists.{if◌then◌else◌};
 ghost use Rattle.rules.specs.Plan.{leg_in};

@@ -1,4 +1,7 @@
 // `improve`: what the scans found, carried out and queued.
+
+#![tactic(auto)]
+
 ghost use Rattle.std.specs.Prelude.{◌≡◌, List, [], ◌∷◌, ℕ, ◌<◌, length};
 ghost use Rattle.rules.specs.Journal.{track_of};
 ghost use Rattle.rules.specs.Queue.{push_all, waiting};

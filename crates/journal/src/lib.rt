@@ -1,4 +1,7 @@
 // Reversal, rotation and swap, journalled; and how they are taken back.
+
+#![tactic(auto)]
+
 ghost use Rattle.std.specs.Prelude.{◌≡◌, true, List, [], ◌∷◌, ◌++◌, ℕ, ◌+◌, ◌*◌, ◌<◌, ◌≤◌, length, take};
 ghost use Rattle.rules.specs.Lists.{at};
 ghost use Rattle.rules.specs.Journal.{Entry, rotation, swap as swap_of, in_range, good_journal, entry_at, take_back as take_back_of, track_of, doing, reversing};

@@ -1,4 +1,7 @@
 // Kicks: segments that change places, and places shuffled.
+
+#![tactic(auto)]
+
 ghost use Rattle.std.specs.Prelude.{◌≡◌, ℕ, ◌≤◌, ◌<◌, pos, ◌+ℤ◌, length};
 ghost use Rattle.rules.specs.Plan.{leg_in};
 ghost use Rattle.rules.specs.Queue.{waiting};

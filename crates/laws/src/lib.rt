@@ -1,1 +1,3 @@
 // The laws are theorems about the rules: they stand in proofs/, and this crate has no code.
+
+#![tactic(auto)]

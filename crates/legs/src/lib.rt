@@ -1,4 +1,7 @@
 // Stops, places, and the leg between two stops.
+
+#![tactic(auto)]
+
 ghost use Rattle.std.specs.Prelude.{◌≡◌, ◌<◌};
 ghost use Rattle.rules.specs.Plan.{leg_in};
 ghost use Rattle.rules.specs.SharedWords.{Square, IsLeg};

@@ -1,4 +1,7 @@
 // `lk_from`, `lk_deepen`: the Lin-Kernighan step on flips. A level of breadth 1 tries one continuation, so from level 1 on it is a loop.
+
+#![tactic(auto)]
+
 ghost use Rattle.std.specs.Prelude.{◌≡◌, List, [], ◌∷◌, ℕ, ◌+◌, ◌<◌, ◌≤◌, length};
 ghost use Rattle.rules.specs.Words.{Stop as StopOf};
 ghost use Rattle.rules.specs.Journal.{track_of};

@@ -1,4 +1,7 @@
 // `lk3_from`: the Lin-Kernighan step on 3-opt moves. A level chooses the direction, and the direction calls the next level.
+
+#![tactic(auto)]
+
 ghost use Rattle.std.specs.Prelude.{◌≡◌, ◌||◌, List, [], ◌∷◌, ℕ, ◌+◌, ◌-◌, ◌*◌, ◌<◌, ◌≤◌, eqb, length};
 ghost use Rattle.rules.specs.Ring.{succ as succ_of};
 ghost use Rattle.rules.specs.Journal.{track_of};

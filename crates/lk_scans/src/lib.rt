@@ -1,4 +1,7 @@
 // The continuations of a level of the Lin-Kernighan step, which change nothing.
+
+#![tactic(auto)]
+
 ghost use Rattle.std.specs.Prelude.{◌≡◌, ◌||◌, List, [], ◌∷◌, ℕ, ◌<◌, ◌≤◌, length};
 ghost use Rattle.rules.specs.Ring.{leg};
 ghost use Rattle.rules.specs.Step.{among, best};

@@ -1,4 +1,7 @@
 // What both Lin-Kernighan steps carry: the stops of the moves made, the legs added and removed, in stacks of fixed room.
+
+#![tactic(auto)]
+
 ghost use Rattle.std.specs.Prelude.{◌≡◌, ℕ, ◌<◌, ◌≤◌, length};
 ghost use Rattle.rules.specs.Step.{among};
 ghost use Rattle.rules.specs.Queue.{push_all, waiting};

@@ -1,4 +1,7 @@
 // The round that a load lays into memory, and the one that an undo gives back there.
+
+#![tactic(auto)]
+
 ghost use Rattle.std.specs.Prelude.{◌≡◌, true, List, [], ℕ, ◌≤◌, length};
 ghost use Rattle.rules.specs.Ring.{is_round};
 ghost use Rattle.rules.specs.Queue.{flags_of};

@@ -1,4 +1,7 @@
 // The moves on a round: the flip, the exchange of two segments, and the moves of two or three legs made of them.
+
+#![tactic(auto)]
+
 pub mod cuts;
 pub mod entries;
 pub mod flips;

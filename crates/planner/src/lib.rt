@@ -1,4 +1,7 @@
 // The public calls: load, commit, undo, kick, descend. Each checks what it is lent, refuses with a number, or does what the rule says.
+
+#![tactic(auto)]
+
 ghost use Rattle.std.specs.Prelude.{◌≡◌};
 ghost use Rattle.promises.specs.Promises.{Loads, Commits, Undoes, KicksOnce, Descends};
 ghost use Rattle.refusals.specs.Lending.{lending, carrying};

@@ -1,4 +1,7 @@
 // The public functions for tests and benchmarks that are no Rattle: each with its own promise, and nothing more.
+
+#![tactic(auto)]
+
 ghost use Rattle.start.specs.Started.{Started};
 ghost use Rattle.exact.specs.Promise.{Solve};
 

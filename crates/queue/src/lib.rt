@@ -1,4 +1,7 @@
 // The stops that wait: a ring of n words with a head and a count, and a flag for each stop.
+
+#![tactic(auto)]
+
 ghost use Rattle.std.specs.Prelude.{◌≡◌, List, [], ℕ, ◌+◌, ◌<◌, ◌≤◌, length, take};
 ghost use Rattle.rules.specs.Ring.{turn};
 ghost use Rattle.rules.specs.Queue.{push as push_of, push_all as push_all_of, waiting};

@@ -1,4 +1,7 @@
 // The answer numbers 1 to 7: what every call checks of what it is lent, in 01's order. Nothing is written.
+
+#![tactic(auto)]
+
 ghost use Rattle.std.specs.Prelude.{◌≡◌, Bool, ◌&&◌, List, [], ◌∷◌, ℕ, ◌*◌, ◌/◌, ◌<◌, ◌≤◌, leb, eqb, length};
 ghost use Rattle.rules.specs.Lists.{if◌then◌else◌};
 ghost use Rattle.rules.specs.Plan.{leg_in, list_in};

@@ -2,6 +2,9 @@
 //
 // The list comes by standard input: records of a byte for the kind, four for the length, and as many bytes as that. A kind that is added
 // gets a function that runs one record, a line in `tried` and a tally. What the records of a session leave in lent memory is there for the next.
+
+#![tactic(auto)]
+
 ghost use Rattle.std.specs.Prelude.{◌<◌, ◌≤◌, ◌≡◌, length};
 ghost use Rattle.sessions.specs.Rooms.{Room};
 

@@ -1,4 +1,7 @@
 // The three ways to rewrite a round and its places: reversal, rotation, swap.
+
+#![tactic(auto)]
+
 ghost use Rattle.std.specs.Prelude.{◌≡◌, ℕ, ◌+◌, ◌<◌, ◌≤◌, ◌++◌, length, take, drop};
 ghost use Rattle.rules.specs.Ring.{turn};
 ghost use Rattle.rules.specs.Rewrite.{reverse_at, rotate_at, swap_at, len_of};

@@ -1,4 +1,7 @@
 // The three scans, which change nothing.
+
+#![tactic(auto)]
+
 ghost use Rattle.std.specs.Prelude.{◌≡◌, ℕ, ◌<◌, length};
 ghost use Rattle.tries.specs.Picks.{Chosen};
 ghost use Rattle.scans.specs.Scans.{Ready, found_in};

@@ -1,4 +1,7 @@
 // The scan of a level of LK3, which changes nothing.
+
+#![tactic(auto)]
+
 ghost use Rattle.std.specs.Prelude.{◌≡◌, ℕ, ◌+◌, ◌<◌, ◌≤◌, length};
 ghost use Rattle.lk_state.specs.Stacks.{legs_in};
 ghost use Rattle.seeks.specs.Seeks.{Seeks};

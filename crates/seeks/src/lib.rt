@@ -1,4 +1,7 @@
 // The tries of one t5 for a level of LK3: the first move that closes with a gain, or the best so far to go on with.
+
+#![tactic(auto)]
+
 ghost use Rattle.std.specs.Prelude.{◌≡◌, true, false, ◌&&◌, List, [], ◌∷◌, ℕ, ◌+◌, ◌-◌, ◌<◌, ◌≤◌, max, ltb, length};
 ghost use Rattle.rules.specs.Plan.{leg_in};
 ghost use Rattle.rules.specs.SharedWords.{Tied};

@@ -1,4 +1,7 @@
 // 01, "Sheets": a sheet's matrix, near list and alpha list, loaded into lent memory.
+
+#![tactic(auto)]
+
 ghost use Rattle.std.specs.Prelude.{◌≡◌, ℕ, ◌+◌, ◌-◌, ◌*◌, ◌%◌, ◌<◌, ◌≤◌, length, drop};
 ghost use Rattle.rules.specs.Lists.{at as cell_of};
 ghost use Rattle.rules.specs.Bits.{bits_of, fields};

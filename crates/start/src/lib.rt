@@ -1,4 +1,7 @@
 // The start round, by blocks and by plain scans: from stop 0, always on to the nearest stop left.
+
+#![tactic(auto)]
+
 ghost use Rattle.std.specs.Prelude.{◌≡◌, ◌<◌, ◌≤◌, length};
 ghost use Rattle.rules.specs.Lists.{at};
 ghost use Rattle.rules.specs.Plan.{leg_in};

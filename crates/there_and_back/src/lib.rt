@@ -1,4 +1,7 @@
 // A reversal and its rollback leave round and places as they were: from the journal's promises and the laws alone.
+
+#![tactic(auto)]
+
 ghost use Rattle.std.specs.Prelude.{◌≡◌, ℕ, ◌<◌, length};
 ghost use Rattle.rules.specs.SharedWords.{Tied};
 ghost use Rattle.journal.specs.Journalled.{Journalled};
