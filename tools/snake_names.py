@@ -13,7 +13,7 @@ CRATES = sorted(line.split(":")[0] for line in open("crates.txt") if ":" in line
 # Names of this repository that the library spells alike, and that port.py left.
 SHARED = """accept-is b-is best-is cell-is change-is count-is dA dB eB each-one else-first entries-more first-is first-none first-same
 from-x i-is last-is least-is length-places made-is n-is nA nB nearest-same next-is not-below place-2 prev-first q-is r-is rest-is row-at
-scan-stop sets-eq state-is step-none take-shown third-is total-add total-one total-zero units-is""".split()
+scan-stop state-is step-none take-shown third-is total-add total-one total-zero units-is""".split()
 
 
 def bare(text):

@@ -5,7 +5,7 @@ use mathlib.Core.List.{List, [], ◌∷◌, ◌++◌, append_assoc, append-nil}
 use native.Mathlib.Omega.{arith}
 use native.Mathlib.Numerals.{add-one}
 use lib.ListN.{length, take, drop, set, length-append, length-drop}
-use lib.Seq.{sets_eq, take_at, drop-drop, drop-append-add, length-take-le}
+use lib.Seq.{sets-eq, take_at, drop-drop, drop-append-add, length-take-le}
 use Rattle.rules.specs.Bits.{bits, bytes_of}
 use Rattle.laws.proofs.BitLaws.{bytes_16, bytes_32, bytes_24, bytes_12, bytes_of_none}
 use Rattle.bits.specs.Write.{Wrote}
@@ -34,12 +34,12 @@ wrote_next l at x m to y r h e u w =
 
 -- ---- stores
 pub wrote_two : (l : List ℕ) (at x y : ℕ) → at + 2 ≤ length l → Wrote l at (x ∷ y ∷ []) (set (set l at x) (at + 1) y)
-wrote_two l at x y h = record { is = rw (add-one at) (sets_eq (x ∷ y ∷ []) l at h ∙ append_assoc (take at l) (x ∷ y ∷ []) (drop (at + 2) l)) }
+wrote_two l at x y h = record { is = rw (add-one at) (sets-eq (x ∷ y ∷ []) l at h ∙ append_assoc (take at l) (x ∷ y ∷ []) (drop (at + 2) l)) }
 
 pub wrote_three : (l : List ℕ) (at x y z : ℕ) → at + 3 ≤ length l → Wrote l at (x ∷ y ∷ z ∷ []) (set (set (set l at x) (at + 1) y) (at + 2) z)
 wrote_three l at x y z h =
     let e : at + 2 ≡ suc (suc at) = omega arith in
-    record { is = rw (add-one at, e) (sets_eq (x ∷ y ∷ z ∷ []) l at h ∙ append_assoc (take at l) (x ∷ y ∷ z ∷ []) (drop (at + 3) l)) }
+    record { is = rw (add-one at, e) (sets-eq (x ∷ y ∷ z ∷ []) l at h ∙ append_assoc (take at l) (x ∷ y ∷ z ∷ []) (drop (at + 3) l)) }
 
 -- ---- the writers
 bytes_nil : (bs : List ℕ) → bytes_of (bs ++ []) ≡ bytes_of bs

@@ -25,7 +25,7 @@ pub mod steps;
 const STEP: usize = 100;
 
 // Where a descent stands: the carried time, the entries held, who waits, the units left and how it ended.
-#[derive(Drop)]
+#[derive(Clone, Copy)]
 pub struct Descent {
     pub time: u32,
     pub held: usize,

@@ -34,7 +34,7 @@ pub fn draw(state: &mut u64, low: u32, high: u32) -> u32
 }
 
 // The source of the draws: its state.
-#[derive(Drop)]
+#[derive(Clone, Copy)]
 pub struct Draws {
     pub state: u64,
 }

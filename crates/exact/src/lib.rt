@@ -228,7 +228,7 @@ fn number_of(n: usize, cells: usize, stops: usize, words: usize) -> u32
 }
 
 // An answer: its number, and the round's time.
-#[derive(Drop)]
+#[derive(Clone, Copy)]
 pub struct Solved {
     pub number: u32,
     pub time: u32,

@@ -19,7 +19,7 @@ use ring::stops::ahead;
 use scans::find_move;
 
 // What a step gained, 0 for nothing; how many entries are held, and who waits.
-#[derive(Drop)]
+#[derive(Clone, Copy)]
 pub struct Gained {
     pub gain: u32,
     pub held: usize,

@@ -5,7 +5,7 @@ use mathlib.Core.Bool.{true}
 use mathlib.Core.List.{List, [], ◌∷◌, ◌++◌, append-nil}
 use native.Mathlib.Omega.{arith}
 use lib.ListN.{length, take, drop, set, length-append}
-use lib.Seq.{sets, sets_eq, take_at, length-take-le}
+use lib.Seq.{sets, sets-eq, take_at, length-take-le}
 use Rattle.rules.specs.Words.{Place, Round}
 use Rattle.rules.specs.Lists.{each}
 use Rattle.rules.specs.Journal.{Track, Entry, words_of, in_range, entry_at, entries_of, carry_out, take_back, track_of, doing, rollback}
@@ -26,7 +26,7 @@ note_words ws p k a b c d h =
     let q3 : suc (p + 2) ≡ p + 3 = omega arith in
     let q4 : suc (p + 3) ≡ p + 4 = omega arith in
     let s : set (set (set (set (set ws p k) (p + 1) a) (p + 2) b) (p + 3) c) (p + 4) d ≡ sets ws p vs = cc in
-    ap (take (p + 5)) (s ∙ sets_eq vs ws p h) ∙ take_at (take p ws ++ vs) (drop (p + 5) ws) (p + 5) l
+    ap (take (p + 5)) (s ∙ sets-eq vs ws p h) ∙ take_at (take p ws ++ vs) (drop (p + 5) ws) (p + 5) l
 
 -- one entry more
 pub moved_one : (e : Entry) (r : Round) (j : List ℕ) (held : ℕ) (r' : Round) (ps' : List Place) (j' : List ℕ) (held' : ℕ)

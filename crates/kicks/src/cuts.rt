@@ -27,7 +27,7 @@ pub fn kind_at(n: usize, kind: u32) -> u32
 }
 
 // Segments X, Y and Z of a, b and c places from start on.
-#[derive(Drop)]
+#[derive(Clone, Copy)]
 pub struct Cut {
     pub start: Place,
     pub a: usize,

@@ -23,7 +23,7 @@ fn stop_on(round: &[u32], places: &[u32], start: Place, k: usize) -> Stop
 }
 
 // The ends of p X Y Z q.
-#[derive(Drop)]
+#[derive(Clone, Copy)]
 pub struct Ends {
     pub p: Stop,
     pub x0: Stop,

@@ -25,7 +25,7 @@ pub mod ends;
 pub mod shuffles;
 
 // What a kick leaves: the entries held, those that wait, the time of the legs that came and of those that went.
-#[derive(Drop)]
+#[derive(Clone, Copy)]
 pub struct Kicked {
     pub held: usize,
     pub line: Line,

@@ -7,11 +7,11 @@ ghost use Rattle.rules.specs.Plan.{leg_in};
 ghost use Rattle.rules.specs.SharedWords.{Square, IsLeg};
 
 // A stop's number.
-#[derive(Drop)]
+#[derive(Clone, Copy)]
 pub struct Stop(pub u32);
 
 // A place in the round.
-#[derive(Drop)]
+#[derive(Clone, Copy)]
 pub struct Place(pub u32);
 
 // A stop or a place as an index.

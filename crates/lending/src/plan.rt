@@ -17,7 +17,7 @@ const DRAWN: u32 = 1;
 const FARTHEST: u32 = 32767;
 
 // The least and the greatest of a rule's draws.
-#[derive(Drop)]
+#[derive(Clone, Copy)]
 struct Range {
     low: u32,
     high: u32,

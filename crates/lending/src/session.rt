@@ -3,7 +3,7 @@ use crate::words::{long, word};
 use legs::wide;
 
 // Lengths: matrix cells, list entries, and the words of all else that is lent. Then the state, and the draw state.
-#[derive(Drop)]
+#[derive(Clone, Copy)]
 pub struct Session {
     pub n: usize,
     pub k: usize,

@@ -17,7 +17,7 @@ pub const COMMIT: u32 = 4;
 pub const UNDO: u32 = 5;
 
 // What a call gave: its number, the state and the draw state it left, and its results.
-#[derive(Drop)]
+#[derive(Clone, Copy)]
 pub struct Outcome {
     pub number: u32,
     pub head: usize,

@@ -26,7 +26,7 @@ use queue::Line;
 use ring::stops::ahead;
 
 // The best closed gain, 0 for none, after how many moves, and how many entries were held then.
-#[derive(Drop)]
+#[derive(Clone, Copy)]
 pub struct Mark {
     pub gain: u32,
     pub len: usize,
@@ -34,7 +34,7 @@ pub struct Mark {
 }
 
 // Where a walk down the levels ends: the moves made, the best closed gain among them, and how many entries are held.
-#[derive(Drop)]
+#[derive(Clone, Copy)]
 pub struct Walk {
     pub steps: [u32; 100],
     pub mark: Mark,

@@ -16,7 +16,7 @@ use moves::entries::{either, listed, same};
 use ring::stops::{ahead, behind, succ};
 
 // A continuation: its partial gain, 0 for none, and its stops.
-#[derive(Drop)]
+#[derive(Clone, Copy)]
 pub struct Pick {
     pub partial: u32,
     pub t3: Stop,
@@ -24,7 +24,7 @@ pub struct Pick {
 }
 
 // The best three, best first.
-#[derive(Drop)]
+#[derive(Clone, Copy)]
 pub struct Picks {
     pub a: Pick,
     pub b: Pick,

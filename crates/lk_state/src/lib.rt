@@ -15,7 +15,7 @@ use queue::Line;
 use ring::stops::edge;
 
 // Three stacks with their counts, and the first t2. A step word is t3 * 4096 + t4, a leg word low * 4096 + high.
-#[derive(Drop)]
+#[derive(Clone, Copy)]
 pub struct LkState {
     pub steps: [u32; 100],
     pub steps_len: usize,

@@ -3,7 +3,7 @@ ghost use Rattle.std.specs.Prelude.{◌≡◌, ◌&&◌, ℕ, ◌≤◌, ◌<◌
 ghost use Rattle.moves.specs.Cuts.{Rising, IsWindow};
 
 // Three places in rising order.
-#[derive(Drop)]
+#[derive(Clone, Copy)]
 pub struct Cuts(pub usize, pub usize, pub usize);
 
 pub fn sorted(p: usize, q: usize, s: usize) -> Cuts
@@ -27,7 +27,7 @@ pub fn sorted(p: usize, q: usize, s: usize) -> Cuts
 }
 
 // Two segments side by side: where the first begins, and their lengths.
-#[derive(Drop)]
+#[derive(Clone, Copy)]
 pub struct Spread {
     pub start: usize,
     pub first: usize,

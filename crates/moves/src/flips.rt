@@ -12,7 +12,7 @@ use legs::{Place, Stop};
 use ring::stops::{place_of, pred, succ};
 
 // Where a reversal starts and ends.
-#[derive(Drop)]
+#[derive(Clone, Copy)]
 pub struct Ends {
     pub start: Place,
     pub end: Place,

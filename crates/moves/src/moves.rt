@@ -11,7 +11,7 @@ use crate::or_moves::or_move;
 use legs::Stop;
 
 // A move from t1 and t2: its case (0 none, 1 two, 2 flips, 3 segment, 4 inner), its gain, its other stops. A 2-opt move has t4 for t5, t6.
-#[derive(Drop)]
+#[derive(Clone, Copy)]
 pub struct Move {
     pub case: u32,
     pub gain: u32,

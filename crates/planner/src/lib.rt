@@ -11,7 +11,7 @@ use queue::Line;
 use refusals::{call_number, kick_number, load_number, step_good};
 
 // What goes in by value and comes back: the queue's head and count, the entries held, the carried time.
-#[derive(Drop)]
+#[derive(Clone, Copy)]
 pub struct State {
     pub head: usize,
     pub count: usize,
@@ -20,14 +20,14 @@ pub struct State {
 }
 
 // An answer: its number, and the state.
-#[derive(Drop)]
+#[derive(Clone, Copy)]
 pub struct Answer {
     pub number: u32,
     pub state: State,
 }
 
 // A kick's answer: its number, the state, and the signed change in time.
-#[derive(Drop)]
+#[derive(Clone, Copy)]
 pub struct Kicked {
     pub number: u32,
     pub state: State,
@@ -263,7 +263,7 @@ pub fn kick(
 }
 
 // A descent's answer: its number, the state, the gain, the units taken, and how it ended.
-#[derive(Drop)]
+#[derive(Clone, Copy)]
 pub struct Descended {
     pub number: u32,
     pub state: State,

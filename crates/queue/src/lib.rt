@@ -12,7 +12,7 @@ use legs::{Stop, wide};
 use ring::places::{next, wrap};
 
 // Where the queue begins in its words, and how many wait.
-#[derive(Drop)]
+#[derive(Clone, Copy)]
 pub struct Line {
     pub head: usize,
     pub count: usize,
@@ -39,7 +39,7 @@ pub fn push(queue: &mut [u32], flags: &mut [u8], line: Line, v: Stop) -> Line
 }
 
 // A stop taken, and those that wait then.
-#[derive(Drop)]
+#[derive(Clone, Copy)]
 pub struct Taken {
     pub stop: Stop,
     pub line: Line,

@@ -11,7 +11,7 @@ pub const HEAD: usize = 44;
 
 // Lent: n, and the lengths of matrix, round and table. Answered: the number, the words of the table that are written, and the time. A seed
 // other than 0: the cells are drawn from low to high.
-#[derive(Drop)]
+#[derive(Clone, Copy)]
 pub struct Case {
     pub number: u32,
     pub n: usize,

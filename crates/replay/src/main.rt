@@ -34,14 +34,14 @@ const END: u8 = 0;
 const CUT: u8 = 255;
 
 // The kind of the record that was read, and its length.
-#[derive(Drop)]
+#[derive(Clone, Copy)]
 struct Got {
     kind: u8,
     length: usize,
 }
 
 // What was run so far: records read, the tallies, and where the session stands.
-#[derive(Drop)]
+#[derive(Clone, Copy)]
 struct Sum {
     records: u64,
     last: u8,

@@ -1,7 +1,7 @@
 // A tally for each kind of answer: the start rounds, the exact solver, each call that was accepted, and refusals of any call.
 use crate::tally::{Tally, counted, none, print};
 
-#[derive(Drop)]
+#[derive(Clone, Copy)]
 pub struct Tallies {
     pub start: Tally,
     pub exact: Tally,

@@ -1,5 +1,5 @@
 // How many cases of a kind were run, agreed and differed.
-#[derive(Drop)]
+#[derive(Clone, Copy)]
 pub struct Tally {
     pub run: u64,
     pub agreed: u64,

@@ -16,7 +16,7 @@ use Rattle.laws.proofs.TurnLaws.{turn_length}
 use Rattle.ring.proofs.TurnAtLaws.{at_turn}
 use Rattle.rewrite.specs.Writes.{writes, placings}
 use Rattle.rewrite.proofs.WriteLaws.{turn_writes, length_writes, length_placings, placings_at, Has, has}
-use lib.Seq.{sets, sets_eq, get_or-append-add, get_or-drop}
+use lib.Seq.{sets, sets-eq, get_or-append-add, get_or-drop}
 
 -- the writes of vs from s on, as they are read from s on
 pub turn_written : (s : ℕ) (vs xs : List ℕ) → s < length xs → length vs ≤ length xs → turn s (writes (length xs) s vs xs) ≡ vs ++ drop (length vs) (turn s xs)
@@ -24,7 +24,7 @@ turn_written s vs xs hs h =
     let n : ℕ = length xs in
     let e : around n s 0 ≡ s = around_0 n s hs in
     let w : turn s (writes n (around n s 0) vs xs) ≡ sets (turn s xs) 0 vs = turn_writes n s 0 vs xs refl hs (omega arith) in
-    let q : sets (turn s xs) 0 vs ≡ vs ++ drop (0 + length vs) (turn s xs) = sets_eq vs (turn s xs) 0 (omega (arith, turn_length s xs)) in
+    let q : sets (turn s xs) 0 vs ≡ vs ++ drop (0 + length vs) (turn s xs) = sets-eq vs (turn s xs) 0 (omega (arith, turn_length s xs)) in
     ap (λ (m : ℕ). turn s (writes n m vs xs)) (sym e) ∙ w ∙ q ∙ ap (λ (m : ℕ). vs ++ drop m (turn s xs)) (zero-add (length vs))
 
 -- R j i says that the j-th stop that is written is the i-th of those that stood there

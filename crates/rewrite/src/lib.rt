@@ -68,7 +68,7 @@ fn len_of(n: usize, start: usize, end: usize) -> usize
 }
 
 // The places that a reversal takes.
-#[derive(Drop)]
+#[derive(Clone, Copy)]
 pub struct Span {
     pub start: usize,
     pub len: usize,

@@ -16,7 +16,7 @@ use moves::moves::Move;
 use ring::stops::{ahead, behind, beside, between_dir};
 
 // A move that closes with its gain, or the best so far to go on with and its partial gain; case 0 is none.
-#[derive(Drop)]
+#[derive(Clone, Copy)]
 pub struct Sought {
     pub closed: bool,
     pub mv: Move,

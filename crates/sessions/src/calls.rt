@@ -298,7 +298,7 @@ fn call(
 }
 
 // What a record's call gave, and whether it agrees.
-#[derive(Drop)]
+#[derive(Clone, Copy)]
 pub struct Made {
     pub agreed: bool,
     pub given: Outcome,
@@ -394,7 +394,7 @@ fn moved_on(session: Session, given: Outcome) -> Session {
 }
 
 // What a record's call left, and whether it agrees.
-#[derive(Drop)]
+#[derive(Clone, Copy)]
 pub struct Met {
     pub agreed: bool,
     pub session: Session,

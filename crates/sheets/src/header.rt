@@ -6,7 +6,7 @@ ghost use Rattle.sheets.specs.Sheet.{header_of};
 
 use bits::read::{read32, read64};
 
-#[derive(Drop)]
+#[derive(Clone, Copy)]
 pub struct Header {
     pub version: u32,
     pub step: u32,

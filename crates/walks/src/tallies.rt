@@ -7,7 +7,7 @@ ghost use Rattle.walks.specs.Walking.{over};
 use ring::places::narrow;
 
 // The carried time, the best time, the walk's record, the kicks since that and since the best, all kicks, the units left.
-#[derive(Drop)]
+#[derive(Clone, Copy)]
 pub struct Tally {
     pub time: u32,
     pub best: u32,

@@ -21,7 +21,7 @@ use loads::load_round;
 use queue::Line;
 
 // A walk in the middle of a turn: the entries held, who waits, the carried time.
-#[derive(Drop)]
+#[derive(Clone, Copy)]
 pub struct Middle {
     pub held: usize,
     pub line: Line,
