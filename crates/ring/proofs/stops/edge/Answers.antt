@@ -1,0 +1,13 @@
+use borrow.Author.Tests.{lt-ltb, le-ltb}
+use Rattle.rules.specs.Ring.{leg}
+use Rattle.ring.specs.Legs.{leg_word}
+use borrow.Author.Rules.{rules}
+use Rattle.ring.proofs.stops.edge.Goals as goal
+
+pub returns-then-a-b : goal.returns-then-a-b
+unfolding leg leg_word
+returns-then-a-b c = simp (lt-ltb _ _ c.if-a-b.true)
+
+pub returns : goal.returns
+unfolding leg leg_word
+returns c = simp (le-ltb _ _ c.if-a-b.false)

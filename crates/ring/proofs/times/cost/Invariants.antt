@@ -1,0 +1,18 @@
+use Prim.Native.Nat.{ℕ, ◌+◌, ◌-◌, ◌*◌, ◌≤◌}
+use mathlib.Core.Path.{◌≡◌, ap, ◌∙◌}
+use native.Mathlib.Omega.{arith}
+use lib.ListN.{length}
+use Rattle.rules.specs.Lists.{at}
+use Rattle.rules.specs.Ring.{next, recount}
+use Rattle.rules.specs.Plan.{leg_in}
+use Rattle.ring.proofs.CostLaws.{rest, closed, cost_starts, cost_turn, cost_done, cost_none}
+use borrow.Author.Rules.{rules}
+use Rattle.ring.proofs.times.cost.Given as goal
+
+abbrev pub invariant-loop-i : goal.invariant-loop-i
+invariant-loop-i l =
+    (l.i ≤ length l.round) × ((l.sum ≤ 65535 * l.i) × (l.sum + rest (leg_in (length l.round) l.matrix) (closed l.round) l.i ≡ recount (leg_in (length l.round) l.matrix) l.round))
+
+abbrev pub decreases-loop-i : goal.decreases-loop-i
+decreases-loop-i l =
+    length l.round - l.i

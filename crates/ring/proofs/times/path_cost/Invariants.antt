@@ -1,0 +1,20 @@
+use Prim.Native.Nat.{ℕ, ◌+◌, ◌-◌, ◌*◌, ◌<◌, ◌≤◌}
+use mathlib.Core.Path.{◌≡◌, sym, ap, ◌∙◌}
+use native.Mathlib.Omega.{arith}
+use lib.ListN.{length}
+use Rattle.rules.specs.Lists.{at}
+use Rattle.rules.specs.Ring.{next, path_cost}
+use Rattle.rules.specs.Plan.{leg_in}
+use Rattle.ring.specs.Around.{around}
+use Rattle.ring.proofs.AroundLaws.{around_0, next_around}
+use Rattle.ring.proofs.CostLaws.{rest, part, path_starts, path_turn, path_done}
+use borrow.Author.Rules.{rules}
+use Rattle.ring.proofs.times.path_cost.Given as goal
+
+abbrev pub invariant-loop-i : goal.invariant-loop-i
+invariant-loop-i l =
+    (l.i ≤ l.legs) × ((l.at < length l.round) × ((l.at ≡ around (length l.round) l.start l.i) × ((l.sum ≤ 65535 * l.i) × (l.sum + rest (leg_in (length l.round) l.matrix) (part l.start l.legs l.round) l.i ≡ path_cost (leg_in (length l.round) l.matrix) l.start l.legs l.round))))
+
+abbrev pub decreases-loop-i : goal.decreases-loop-i
+decreases-loop-i l =
+    l.legs - l.i
