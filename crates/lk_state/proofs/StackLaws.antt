@@ -14,7 +14,7 @@ use Rattle.rules.specs.Words.{Stop}
 use Rattle.rules.specs.Lists.{at}
 use Rattle.rules.specs.Ring.{Leg, leg}
 use Rattle.rules.specs.Step.{among}
-use Rattle.rules.specs.Queue.{push_all}
+use Rattle.rules.specs.Queue.{push, push_all}
 use Rattle.laws.proofs.ChoiceLaws.{either_way, not_so, and-true}
 use Rattle.ring.specs.Legs.{leg_word}
 use Rattle.lk_state.specs.Stacks.{leg_is, legs_in, stops_in, Stepping, LegWord}
@@ -139,7 +139,7 @@ stepping_push ws i n t3 t4 h h4 l3 l4 s =
 push_join : (q us vs : List Stop) → push_all q (us ++ vs) ≡ push_all (push_all q us) vs
 unfolding push_all
 push_join q [] vs = refl
-push_join q (u ∷ us) vs = push_join _ us vs
+push_join q (u ∷ us) vs = push_join (push q u) us vs
 
 -- the stops of one word more
 pub push_word : (ws : List ℕ) (i : ℕ) (q q₀ q' : List Stop) → q ≡ push_all q₀ (stops_in ws i) → q' ≡ push_all q (at ws i / 4096 ∷ at ws i % 4096 ∷ []) → q' ≡ push_all q₀ (stops_in ws (i + 1))

@@ -1,0 +1,11 @@
+use Rattle.bits.proofs.WriteLaws.{put_16}
+use lib.ListN.{length, get_or, length-set}
+use native.Mathlib.Omega.{arith}
+use borrow.Author.Rules.{rules}
+use Rattle.bits.proofs.write.put16.Goals as goal
+
+pub bounds-a-at-2 : goal.bounds-a-at-2
+bounds-a-at-2 c = simp length-set (omega arith)
+
+pub returns : goal.returns
+returns c = put_16 c.args.a.now c.args.at c.args.v c.requires

@@ -1,0 +1,18 @@
+use Prim.Native.Nat.{ℕ, ◌+◌, ◌-◌, ◌*◌, ◌≤◌, ◌<◌}
+use mathlib.Core.Path.{sym, ◌∙◌}
+use mathlib.Core.Logic.{◌≢◌}
+use native.Mathlib.Omega.{arith}
+use borrow.Author.Count.{below_more}
+use borrow.Author.Rules.{rules}
+use Rattle.rules.specs.Lists.{at}
+use Rattle.laws.proofs.CellLaws.{row_within, cells_few}
+use Rattle.refusals.proofs.EntriesLaws.{entries_pass, entry_beyond, entry_own}
+use Rattle.refusals.proofs.entries_good.Given as goal
+
+abbrev pub invariant-loop-i : goal.invariant-loop-i
+invariant-loop-i l =
+    (l.i ≤ l.count) × ((x : ℕ) → x < l.i → (at l.entries (l.v * l.count + x) < l.n) × (at l.entries (l.v * l.count + x) ≢ l.v))
+
+abbrev pub decreases-loop-i : goal.decreases-loop-i
+decreases-loop-i l =
+    l.count - l.i

@@ -1,0 +1,18 @@
+use Prim.Native.Nat.{ℕ, ◌-◌, ◌≤◌, ◌<◌}
+use mathlib.Core.Path.{◌≡◌, sym, ◌∙◌}
+use mathlib.Core.Bool.{true}
+use native.Mathlib.Omega.{arith}
+use borrow.Author.Count.{below_more}
+use borrow.Author.Rules.{rules}
+use Rattle.rules.specs.Plan.{leg_in}
+use Rattle.refusals.proofs.EvenRowLaws.{rows_pass, rows_fail}
+use Rattle.refusals.specs.Refusing.{row_even}
+use Rattle.refusals.proofs.symmetric.Given as goal
+
+abbrev pub invariant-loop-a : goal.invariant-loop-a
+invariant-loop-a l =
+    (l.a ≤ l.n) × ((x : ℕ) → x < l.a → row_even (leg_in l.n l.matrix) l.n x ≡ true)
+
+abbrev pub decreases-loop-a : goal.decreases-loop-a
+decreases-loop-a l =
+    l.n - l.a

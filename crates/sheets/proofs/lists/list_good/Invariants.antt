@@ -1,0 +1,17 @@
+use native.Mathlib.Nat.{mul-le-mul}
+use Rattle.sheets.proofs.ListLaws.{lists_left, lists_start, row_room, list_turn, list_bad, list_next, list_done}
+use Rattle.rules.specs.Bits.{fields, bits_of}
+use Rattle.rules.specs.Numbers.{good_list}
+use Rattle.rules.specs.Plan.{list_in}
+use lib.ListN.{drop}
+use Prim.Native.Nat.{ℕ, ◌+◌, ◌-◌, ◌*◌, ◌≤◌, ◌<◌}
+use mathlib.Core.Path.{◌≡◌, refl, sym, ap, ◌∙◌, subst}
+use borrow.Author.Rules.{rules}
+use native.Mathlib.Omega.{arith}
+use Rattle.sheets.proofs.lists.list_good.Given as goal
+
+abbrev pub invariant-loop-v : goal.invariant-loop-v
+invariant-loop-v l = (l.v ≤ l.n) × (l.p ≡ l.at + 12 * (l.v * l.k)) × (lists_left (bits_of l.s) l.at l.n l.k (l.n - l.v) l.v ≡ good_list l.n (list_in l.k (fields 12 (l.n * l.k) (drop l.at (bits_of l.s)))))
+
+abbrev pub decreases-loop-v : goal.decreases-loop-v
+decreases-loop-v l = l.n - l.v
