@@ -1,0 +1,17 @@
+use Prim.Native.Nat.{ℕ, ◌-◌, ◌≤◌, ◌<◌}
+use mathlib.Core.Path.{◌≡◌}
+use native.Mathlib.Omega.{arith}
+use borrow.Author.Count.{below_more}
+use lib.ListN.{length}
+use Rattle.rules.specs.Lists.{at}
+use Rattle.checks.proofs.MarkLaws.{front_same, front_differs}
+use borrow.Author.Rules.{rules}
+use Rattle.checks.proofs.flags_marked.Given as goal
+
+abbrev pub invariant-loop-i : goal.invariant-loop-i
+invariant-loop-i l =
+    (l.i ≤ length l.flags) × ((k : ℕ) → k < l.i → at l.flags k ≡ at l.marks k)
+
+abbrev pub decreases-loop-i : goal.decreases-loop-i
+decreases-loop-i l =
+    length l.flags - l.i

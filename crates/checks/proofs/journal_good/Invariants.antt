@@ -1,0 +1,18 @@
+use Prim.Native.Nat.{ℕ, ◌-◌, ◌*◌, ◌≤◌, ◌<◌}
+use mathlib.Core.Path.{◌≡◌, sym, ◌∙◌}
+use mathlib.Core.Bool.{true, false}
+use native.Mathlib.Omega.{arith}
+use borrow.Author.Count.{below_more}
+use lib.ListN.{length}
+use Rattle.laws.proofs.ChoiceLaws.{true_false, not_so}
+use Rattle.laws.proofs.JournalWordLaws.{good_entry, good_room, good_each, good_all}
+use borrow.Author.Rules.{rules}
+use Rattle.checks.proofs.journal_good.Given as goal
+
+abbrev pub invariant-loop-i : goal.invariant-loop-i
+invariant-loop-i l =
+    (l.i ≤ l.held) × ((5 * l.held ≤ length l.journal) × ((k : ℕ) → k < l.i → good_entry l.n l.journal k ≡ true))
+
+abbrev pub decreases-loop-i : goal.decreases-loop-i
+decreases-loop-i l =
+    l.held - l.i

@@ -1,0 +1,7 @@
+use mathlib.Core.Path.{ap}
+use lib.Dec.{eqb}
+use borrow.Author.Rules.{rules}
+use Rattle.checks.proofs.time_good.Goals as goal
+
+pub returns : goal.returns
+returns c = ap (eqb c.args.time) c.cost-counted.ensures.is

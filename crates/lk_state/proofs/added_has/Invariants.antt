@@ -1,0 +1,14 @@
+use Prim.Native.Nat.{◌≤◌}
+use mathlib.Core.Path.{◌≡◌, refl}
+use native.Mathlib.Omega.{arith}
+use Rattle.rules.specs.Step.{among}
+use Rattle.lk_state.specs.Stacks.{leg_is, legs_in}
+use Rattle.lk_state.proofs.StackLaws.{has_hit, has_turn, has_done}
+use borrow.Author.Rules.{rules}
+use Rattle.lk_state.proofs.added_has.Given as goal
+
+abbrev pub invariant-loop-i : goal.invariant-loop-i
+invariant-loop-i l = (l.i ≤ l.len) × (among (legs_in l.legs l.i) (leg_is l.word) ≡ among (legs_in l.legs l.len) (leg_is l.word))
+
+abbrev pub decreases-loop-i : goal.decreases-loop-i
+decreases-loop-i l = l.i

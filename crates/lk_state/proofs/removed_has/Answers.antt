@@ -1,0 +1,17 @@
+use Prim.Native.Nat.{◌≤◌}
+use mathlib.Core.Path.{◌≡◌, refl}
+use native.Mathlib.Omega.{arith}
+use Rattle.rules.specs.Step.{among}
+use Rattle.lk_state.specs.Stacks.{leg_is, legs_in}
+use Rattle.lk_state.proofs.StackLaws.{has_hit, has_turn, has_done}
+use borrow.Author.Rules.{rules}
+use Rattle.lk_state.proofs.removed_has.Goals as goal
+
+pub returns-then-legs-i : goal.returns-then-legs-i
+returns-then-legs-i c = has_hit c.args.legs.now c.args.word _ c.loop-i.i c.loop-i-test.true c.if-legs-i.true c.loop-i.invariant.1
+
+pub loop-i-preserved : goal.loop-i-preserved
+loop-i-preserved c = (omega (arith, c.loop-i.invariant.0), has_turn c.args.legs.now c.args.word _ c.loop-i.i c.loop-i-test.true c.if-legs-i.false c.loop-i.invariant.1)
+
+pub returns : goal.returns
+returns c = has_done c.args.legs.now c.args.word _ c.loop-i.i c.loop-i-test.false c.loop-i.invariant.1

@@ -1,0 +1,50 @@
+use Prim.Native.Nat.{◌<◌}
+use mathlib.Core.Path.{◌≡◌, refl, sym, ap, ◌∙◌}
+use native.Mathlib.Omega.{arith}
+use lib.ListN.{length}
+use Rattle.rules.specs.Rewrite.{reverse_at}
+use Rattle.rules.specs.SharedWords.{Tied}
+use Rattle.laws.proofs.RewriteLaws.{reverse_at_short, swap_at_length}
+use Rattle.rewrite.proofs.ReverseLaws.{exchanges, exchanges_starts, exchanges_turn, exchanges_done}
+use borrow.Author.Rules.{rules}
+use Rattle.rewrite.proofs.reverse_positions.Goals as goal
+
+pub returns-then-len-lt2 : goal.returns-then-len-lt2
+returns-then-len-lt2 c =
+    record { is = sym (reverse_at_short c.args.start c.args.len c.args.round.now (omega (arith, c.requires.start_in_bounds)) c.if-len-lt2.true); tied = c.requires.tied }
+
+pub loop-left-init : goal.loop-left-init
+loop-left-init c =
+    let a = c.args in
+    let h : 1 < a.len = search rules in
+    (c.requires.tied, (refl, (c.requires.start_in_bounds, (c.wrap-j.ensures.below, rw c.wrap-j.ensures.is (exchanges_starts a.start a.len a.round.now c.requires.start_in_bounds h c.requires.len_in_bounds)))))
+
+pub loop-left-preserved : goal.loop-left-preserved
+loop-left-preserved c =
+    let sw = c.swap_raw in
+    let lp = c.loop-left in
+    let n = length c.args.round.now in
+    let e : length sw.new.round ≡ n = ap length sw.ensures.is ∙ swap_at_length lp.i lp.j lp.round ∙ lp.invariant.1.0 in (
+      sw.ensures.tied,
+      (
+        e,
+        (
+          c.next-i.ensures.below,
+          (
+            c.prev-j.ensures.below,
+            rw (c.next-i.ensures.is, c.prev-j.ensures.is, sw.ensures.is) (exchanges_turn lp.left n lp.i lp.j lp.round _ (search rules) lp.invariant.1.1.1.1),
+          ),
+        ),
+      ),
+    )
+
+pub shape_of-round : goal.shape_of-round
+shape_of-round c = c.loop-left.invariant.1.0
+
+pub shape_of-places : goal.shape_of-places
+shape_of-places c = c.loop-left.invariant.0.same ∙ c.loop-left.invariant.1.0 ∙ sym c.requires.tied.same
+
+pub returns : goal.returns
+returns c =
+    let lp = c.loop-left in
+    record { is = exchanges_done lp.left _ lp.i lp.j lp.round _ c.loop-left-test.false lp.invariant.1.1.1.1; tied = lp.invariant.0 }

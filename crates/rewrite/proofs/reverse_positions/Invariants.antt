@@ -1,0 +1,18 @@
+use Prim.Native.Nat.{◌<◌}
+use mathlib.Core.Path.{◌≡◌, refl, sym, ap, ◌∙◌}
+use native.Mathlib.Omega.{arith}
+use lib.ListN.{length}
+use Rattle.rules.specs.Rewrite.{reverse_at}
+use Rattle.rules.specs.SharedWords.{Tied}
+use Rattle.laws.proofs.RewriteLaws.{reverse_at_short, swap_at_length}
+use Rattle.rewrite.proofs.ReverseLaws.{exchanges, exchanges_starts, exchanges_turn, exchanges_done}
+use borrow.Author.Rules.{rules}
+use Rattle.rewrite.proofs.reverse_positions.Given as goal
+
+abbrev pub invariant-loop-left : goal.invariant-loop-left
+invariant-loop-left l =
+    Tied l.round l.places × ((length l.round ≡ length l.initial.round) × ((l.i < length l.initial.round) × ((l.j < length l.initial.round) × (exchanges l.left (length l.initial.round) l.i l.j l.round ≡ reverse_at l.start l.len l.initial.round))))
+
+abbrev pub decreases-loop-left : goal.decreases-loop-left
+decreases-loop-left l =
+    l.left
