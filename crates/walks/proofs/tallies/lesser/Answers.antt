@@ -1,0 +1,10 @@
+use mathlib.Core.Path.{refl}
+use native.Mathlib.Omega.{arith}
+use borrow.Author.Tests.{eq-eqb, ne_eqb, lt-ltb, le-ltb}
+use Rattle.walks.proofs.tallies.lesser.Goals as goal
+
+pub returns-then-a-b : goal.returns-then-a-b
+returns-then-a-b c = rw (lt-ltb c.args.a c.args.b c.if-a-b.true) refl
+
+pub returns-else-a-b : goal.returns-else-a-b
+returns-else-a-b c = rw (le-ltb c.args.a c.args.b (omega (arith, c.if-a-b.false))) refl
