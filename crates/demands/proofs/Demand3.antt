@@ -8,7 +8,7 @@ use lib.Dec.{eqb-suc-zero}
 use lib.ListN.{length}
 use Rattle.rules.specs.Calls.{Done}
 use Rattle.rules.specs.Journal.{entries_of, good_journal, undo_all}
-use Rattle.rules.specs.Lists.{if◌then◌else◌}
+use Rattle.rules.specs.Lists.{when◌then◌else◌}
 use Rattle.rules.specs.Memory.{Carried, Lent}
 use Rattle.rules.specs.Numbers.{agree, load_number}
 use Rattle.rules.specs.Plan.{leg_in}
@@ -35,7 +35,7 @@ untouched_holds n matrix l m c k u h = record {
 -- ---- one more call
 module _ (n : ℕ) (matrix : List Time) (m : Lent) (c : Carried) (l' : Lent) (c' : Carried) (matrix_is : m.matrix ≡ matrix) (k : Committed) (h : Holds n matrix m c k) where
   -- not refused
-  done_call : (q : Call) → Made m c 0 l' c' q → Holds n matrix l' c' (if commits q 0 then as_left l' c' else k)
+  done_call : (q : Call) → Made m c 0 l' c' q → Holds n matrix l' c' (when commits q 0 then as_left l' c' else k)
   unfolding commits
   done_call (load start) (loaded p) = load_holds n matrix m c l' c' matrix_is h.cells start p
   done_call (kick kind x) (kicked p) = kick_holds n matrix m c l' c' matrix_is h.cells k h kind x _ _ p
@@ -69,9 +69,9 @@ module _ (n : ℕ) (matrix : List Time) (m : Lent) (c : Carried) (l' : Lent) (c'
   refused_call j undo (undone p) = still j p.stands
   refused_call j (search b step kind stop budget x) (searched p) = still j p.stands
 
-  call_holds : (number : ℕ) (q : Call) → Made m c number l' c' q → Holds n matrix l' c' (if commits q number then as_left l' c' else k)
+  call_holds : (number : ℕ) (q : Call) → Made m c number l' c' q → Holds n matrix l' c' (when commits q number then as_left l' c' else k)
   call_holds zero q made = done_call n matrix m c l' c' matrix_is k h q made
-  call_holds (suc j) q made = subst (λ (b : Bool). Holds n matrix l' c' (if b then as_left l' c' else k)) (sym (refused_commits j q)) (refused_call j q made)
+  call_holds (suc j) q made = subst (λ (b : Bool). Holds n matrix l' c' (when b then as_left l' c' else k)) (sym (refused_commits j q)) (refused_call j q made)
 
   -- an undo that is not refused
   undo_made : Made m c 0 l' c' undo → (l'.round ≡ k.round) × (c'.time ≡ k.time)

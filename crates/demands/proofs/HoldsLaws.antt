@@ -8,7 +8,7 @@ use mathlib.Core.List.{List, [], ◌∷◌}
 use native.Mathlib.Omega.{arith}
 use lib.IntN.{ℤ}
 use lib.ListN.{length}
-use Rattle.rules.specs.Lists.{every, if◌then◌else◌, once}
+use Rattle.rules.specs.Lists.{every, when◌then◌else◌, once}
 use Rattle.rules.specs.Calls.{Done, commit_done, descend_done, kick_done, leaving, load_done, search_done, settings_in, undo_done}
 use Rattle.rules.specs.Descend.{Manner, committed, descend, kept}
 use Rattle.rules.specs.Journal.{cleared, entries_of, good_journal, in_range, track_of, undo_all}
@@ -151,7 +151,7 @@ module _ (n : ℕ) (matrix : List Time) (m : Lent) (c : Carried) (l' : Lent) (c'
 
     -- a kept descent leads back; a committed one commits
     pub descent_holds : (keeps : Bool) (step budget : ℕ) (gain : Time) (units ended : ℕ) → Descends m c keeps step budget l' c' 0 gain units ended
-        → Holds n matrix l' c' (if keeps then k else as_left l' c')
+        → Holds n matrix l' c' (when keeps then k else as_left l' c')
     unfolding descend_number descend_done call_checks lent_checks
     descent_holds keeps step budget gain units ended p = go keeps (p.stands.left refl)
       where
@@ -161,7 +161,7 @@ module _ (n : ℕ) (matrix : List Time) (m : Lent) (c : Carried) (l' : Lent) (c'
         empties : (way : Manner) → once (descend (plan_in m) step way budget (state_in m c)).state.queue ≡ true
         empties way = ap once (descend_queue (plan_in m) step way budget (state_in m c)) ∙ once_none
 
-        go : (b : Bool) → Leaves m c (descend_done m c b step budget).state 0 l' c' → Holds n matrix l' c' (if b then k else as_left l' c')
+        go : (b : Bool) → Leaves m c (descend_done m c b step budget).state 0 l' c' → Holds n matrix l' c' (when b then k else as_left l' c')
         go true left =
             grown_holds a.0 (descend (plan_in m) step (kept (room_in m)) budget (state_in m c)).state 0 left (descend_sound (plan_in m) step (kept (room_in m)) m.n a.0.fit budget (state_in m c) a.1.sound)
             (omega (arith, a.0.low)) (empties (kept (room_in m))) k a.1 h

@@ -3,7 +3,7 @@
 -- any x of A", `A → B` "if A then B", `A × B` "A and B", `A ⊎ B` "A or B", `A → ⊥` "not A"; `recount` and the like are rules. Assumes nothing.
 use Rattle.std.specs.Prelude.{ℕ, ◌+◌, ◌*◌, ◌/◌, ◌<◌, ◌≤◌, ◌≡◌, ◌≢◌, ◌⊎◌, Bool, true, false, not, ◌&&◌, List, eqb, ℤ, length}
 use Rattle.rules.specs.Words.{Stop, Round, Time}
-use Rattle.rules.specs.Lists.{if◌then◌else◌, at}
+use Rattle.rules.specs.Lists.{when◌then◌else◌, at}
 use Rattle.rules.specs.Ring.{is_round, places_of, recount}
 use Rattle.rules.specs.Journal.{good_journal}
 use Rattle.rules.specs.Plan.{leg_in, list_in}
@@ -128,7 +128,7 @@ pub record Committed : Type 0 where
 
 unfoldable pub last_commit : {n : ℕ} {matrix : List Time} {l : Lent} {c : Carried} → Run n matrix l c → Committed
 last_commit {l = l} {c = c} (begun n_is matrix_is made) = record { round = l.round; time = c.time }
-last_commit {l = l} {c = c} (onward {number = number} run untouched q made) = if commits q number then record { round = l.round; time = c.time } else last_commit run
+last_commit {l = l} {c = c} (onward {number = number} run untouched q made) = when commits q number then record { round = l.round; time = c.time } else last_commit run
 
 -- what holds after every run
 pub record Demand3 {n : ℕ} {matrix : List Time} {l : Lent} {c : Carried} (run : Run n matrix l c) : Type 0 where

@@ -8,7 +8,7 @@ use borrow.Author.Tests.{ltb-false}
 use lib.Dec.{ltb}
 use lib.ListN.{length}
 use Rattle.rules.specs.Words.{Stop, Place, Time, Round}
-use Rattle.rules.specs.Lists.{if◌then◌else◌}
+use Rattle.rules.specs.Lists.{when◌then◌else◌}
 use Rattle.rules.specs.Ring.{recount}
 use Rattle.rules.specs.Queue.{push_all, waiting}
 use Rattle.rules.specs.Journal.{Track, track_of, good_journal}
@@ -42,40 +42,40 @@ pub record Running (p : Plan) (kind : ℕ) (keeps : Bool) (room : ℕ) (goal : R
   pub not_yet : ended ≡ 0
 
 -- ---- it starts
-kept_entries : (keeps : Bool) (held : ℕ) → (if keeps then held else 0) ≤ held
+kept_entries : (keeps : Bool) (held : ℕ) → (when keeps then held else 0) ≤ held
 kept_entries true held = omega arith
 kept_entries false held = omega arith
 
-kept_grew : (keeps : Bool) (journal : List ℕ) (held : ℕ) → keeps ≡ true → Grew journal held journal (if keeps then held else 0)
+kept_grew : (keeps : Bool) (journal : List ℕ) (held : ℕ) → keeps ≡ true → Grew journal held journal (when keeps then held else 0)
 kept_grew true journal held e = grew_self journal held
 kept_grew false journal held e = absurd (true_false (sym e))
 
-kept_none : (keeps : Bool) (held : ℕ) → keeps ≡ false → (if keeps then held else 0) ≡ 0
+kept_none : (keeps : Bool) (held : ℕ) → keeps ≡ false → (when keeps then held else 0) ≡ 0
 kept_none true held e = cc
 kept_none false held e = refl
 
-kept_all : (keeps : Bool) (held : ℕ) → keeps ≡ true → (if keeps then held else 0) ≡ held
+kept_all : (keeps : Bool) (held : ℕ) → keeps ≡ true → (when keeps then held else 0) ≡ held
 kept_all true held e = refl
 kept_all false held e = absurd (true_false (sym e))
 
-stays_kept : (keeps : Bool) {h : ℕ} → (keeps ≡ false → h ≡ 0) → (if keeps then h else 0) ≡ h
+stays_kept : (keeps : Bool) {h : ℕ} → (keeps ≡ false → h ≡ 0) → (when keeps then h else 0) ≡ h
 stays_kept true f = refl
 stays_kept false f = sym (f refl)
 
 pub starts : {kind : ℕ} {keeps : Bool} {room : ℕ} {matrix : List Time} {near : List Stop} {k : ℕ} {alpha : List Stop} {ka : ℕ} {round : Round} {places : List Place} {scratch queue flags journal : List ℕ} {head : Place} {count : ℕ} (p : Plan) (held left : ℕ) (time : Time) (h ended : ℕ)
     → Handed matrix near k alpha ka round places scratch queue flags head count → good_journal (length round) journal held ≡ true → time ≡ recount (leg_of p) round
-    → h ≡ (if keeps then held else 0) → ended ≡ 0
+    → h ≡ (when keeps then held else 0) → ended ≡ 0
     → Running p kind keeps room (descend p kind (manner_of keeps room) left (record { track = track_of round journal held; queue = waiting queue head count; time = time }))
     matrix near k alpha ka round journal held round places scratch queue flags journal h head count left time ended
 unfolding descend
 starts {kind} {keeps} {room} {round = round} {queue = queue} {journal = journal} {head = head} {count = count} p held left time h ended hand good t e z =
     let m = manner_of keeps room in
-    let g : h ≡ (if keeps then held else 0) = e in
+    let g : h ≡ (when keeps then held else 0) = e in
     record {
       handed = hand;
       round_long = refl;
       journal_long = refl;
-      good = subst (λ i. good_journal (length round) journal i ≡ true) (sym g) (good_fewer (length round) journal held (if keeps then held else 0) (kept_entries keeps held) good);
+      good = subst (λ i. good_journal (length round) journal i ≡ true) (sym g) (good_fewer (length round) journal held (when keeps then held else 0) (kept_entries keeps held) good);
       grew = λ y. subst (Grew journal held journal) (sym g) (kept_grew keeps journal held y);
       none = λ n. g ∙ kept_none keeps held n;
       time_is = t;
@@ -98,10 +98,10 @@ module _ {kind : ℕ} {keeps : Bool} {room : ℕ} {goal : Ran} {matrix : List Ti
   within_room e = omega (arith, good_room (length round) journal h run.good, run.journal_long)
 
   -- where a kept descent is not short, there is room for a step
-  pub has_room : (full : Bool) → room ≡ length journal₀ / 5 → 2560 ≤ length journal₀ → full ≡ (if keeps then ltb (room - h) 100 else false) → full ≡ false → Journalled (length round) journal h 100
+  pub has_room : (full : Bool) → room ≡ length journal₀ / 5 → 2560 ≤ length journal₀ → full ≡ (when keeps then ltb (room - h) 100 else false) → full ≡ false → Journalled (length round) journal h 100
   has_room full e l f n = record { good = run.good; room = by_keeps keeps refl (sym f ∙ n) }
     where
-      by_keeps : (b : Bool) → b ≡ keeps → (if b then ltb (room - h) 100 else false) ≡ false → 5 * (h + 100) ≤ length journal
+      by_keeps : (b : Bool) → b ≡ keeps → (when b then ltb (room - h) 100 else false) ≡ false → 5 * (h + 100) ≤ length journal
       by_keeps true y q = let free : 100 ≤ room - h = ltb-false (room - h) 100 q in omega (arith, run.journal_long)
       by_keeps false y q = let z : h ≡ 0 = run.none (sym y) in omega (arith, run.journal_long)
 
@@ -121,8 +121,8 @@ module _ {kind : ℕ} {keeps : Bool} {room : ℕ} {goal : Ran} {matrix : List Ti
     unfolding track_of
     round_is = ap (λ (u : Track). u.round) (sym took.made.is)
 
-    on_leads : (less : ℕ) → left ≡ suc less → (if keeps then ltb (room - h) 100 else false) ≡ false
-        → descending p kind (manner_of keeps room) less (waiting queue' head' count') (track_of round' journal' (if keeps then held' else 0)) (carried - gain) ≡ goal
+    on_leads : (less : ℕ) → left ≡ suc less → (when keeps then ltb (room - h) 100 else false) ≡ false
+        → descending p kind (manner_of keeps room) less (waiting queue' head' count') (track_of round' journal' (when keeps then held' else 0)) (carried - gain) ≡ goal
     on_leads less e n =
         let m = manner_of keeps room in
         let f = step_from p kind took.v t in
@@ -137,7 +137,7 @@ module _ {kind : ℕ} {keeps : Bool} {room : ℕ} {goal : Ran} {matrix : List Ti
         ∙ run.leads
 
     -- a stop taken
-    pub turns : (full : Bool) (less h' : ℕ) → left ≡ suc less → full ≡ (if keeps then ltb (room - h) 100 else false) → full ≡ false → h' ≡ (if keeps then held' else 0)
+    pub turns : (full : Bool) (less h' : ℕ) → left ≡ suc less → full ≡ (when keeps then ltb (room - h) 100 else false) → full ≡ false → h' ≡ (when keeps then held' else 0)
         → length round' ≡ length round → length journal' ≡ length journal → {scratch' : List ℕ} → length scratch' ≡ length scratch → length queue' ≡ length queue
         → Running p kind keeps room goal matrix near k alpha ka round₀ journal₀ held₀ round' places' scratch' queue' flags' journal' h' head' count' less (carried - gain) ended
     turns full less h' e f n g lr lj ls lq =
@@ -154,7 +154,7 @@ module _ {kind : ℕ} {keeps : Bool} {room : ℕ} {goal : Ran} {matrix : List Ti
           };
           round_long = lr ∙ run.round_long;
           journal_long = lj ∙ run.journal_long;
-          good = subst (λ i. good_journal (length round') journal' i ≡ true) (sym g) (good_fewer (length round') journal' held' (if keeps then held' else 0) (kept_entries keeps held') took.made.good);
+          good = subst (λ i. good_journal (length round') journal' i ≡ true) (sym g) (good_fewer (length round') journal' held' (when keeps then held' else 0) (kept_entries keeps held') took.made.good);
           grew = λ y. subst (Grew journal₀ held₀ journal') (sym (g ∙ kept_all keeps held' y)) (grew_grew (run.grew y) took.made.grew);
           none = λ z. g ∙ kept_none keeps held' z;
           time_is = omega (arith, fell, took.gain_is, run.time_is, ap (recount (leg_of p)) round_is);
@@ -180,7 +180,7 @@ module _ {kind : ℕ} {keeps : Bool} {room : ℕ} {goal : Ran} {matrix : List Ti
       ∙ ends_out p kind (manner_of keeps room) (waiting queue head count) (track_of round journal h) carried (omega (arith, waiting_long))
       ∙ ap (λ i. leave (manner_of keeps room) 1 i (track_of round journal h) carried) (sym e))
 
-  pub short_ends : (full : Bool) → 0 < count → 0 < left → full ≡ (if keeps then ltb (room - h) 100 else false) → full ≡ true
+  pub short_ends : (full : Bool) → 0 < count → 0 < left → full ≡ (when keeps then ltb (room - h) 100 else false) → full ≡ true
       → Ended goal (manner_of keeps room) keeps journal₀ held₀ round places queue flags journal h head count carried left 2
   short_ends full c l f y =
       ended_as 2 (ends_short p kind (manner_of keeps room) left (waiting queue head count) (track_of round journal h) carried (omega (arith, waiting_long)) l (sym (short_is keeps room round journal h) ∙ sym f ∙ y))

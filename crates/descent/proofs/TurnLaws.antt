@@ -8,7 +8,7 @@ use native.Mathlib.Omega.{arith}
 use lib.Dec.{ltb}
 use lib.ListN.{length}
 use Rattle.rules.specs.Words.{Stop, Time, Round}
-use Rattle.rules.specs.Lists.{if◌then◌else◌}
+use Rattle.rules.specs.Lists.{when◌then◌else◌}
 use Rattle.rules.specs.Queue.{push_all}
 use Rattle.rules.specs.Journal.{Track, track_of, entries_of, cleared}
 use Rattle.rules.specs.Plan.{Plan}
@@ -29,12 +29,12 @@ unfolding leave
 same_leave m left t time = rw (journalled_twice m t)
 
 -- how many entries the words of a manner hold
-pub journalled_is : (keeps : Bool) (room : ℕ) (r : Round) (ws : List ℕ) (held : ℕ) → journalled (manner_of keeps room) (track_of r ws held) ≡ track_of r ws (if keeps then held else 0)
+pub journalled_is : (keeps : Bool) (room : ℕ) (r : Round) (ws : List ℕ) (held : ℕ) → journalled (manner_of keeps room) (track_of r ws held) ≡ track_of r ws (when keeps then held else 0)
 unfolding manner_of journalled cleared track_of entries_of
 journalled_is true room r ws held = refl
 journalled_is false room r ws held = refl
 
-pub short_is : (keeps : Bool) (room : ℕ) (r : Round) (ws : List ℕ) (held : ℕ) → (if keeps then ltb (room - held) 100 else false) ≡ short (manner_of keeps room) (track_of r ws held)
+pub short_is : (keeps : Bool) (room : ℕ) (r : Round) (ws : List ℕ) (held : ℕ) → (when keeps then ltb (room - held) 100 else false) ≡ short (manner_of keeps room) (track_of r ws held)
 unfolding manner_of short track_of
 short_is true room r ws held = ap (λ (k : ℕ). ltb (room - k) 100) (sym (entries_of_length ws held))
 short_is false room r ws held = refl

@@ -1,7 +1,7 @@
 -- What the steps of a descent are handed, and what a descent leaves. Assumes nothing.
 use Rattle.std.specs.Prelude.{ℕ, ◌≤◌, ◌<◌, ◌≡◌, Bool, true, false, List, [], ◌∷◌, length}
 use Rattle.rules.specs.Words.{Stop, Place, Time, Round}
-use Rattle.rules.specs.Lists.{if◌then◌else◌}
+use Rattle.rules.specs.Lists.{when◌then◌else◌}
 use Rattle.rules.specs.Queue.{push_all, waiting}
 use Rattle.rules.specs.Journal.{Track, good_journal, track_of}
 use Rattle.rules.specs.Plan.{Plan}
@@ -34,7 +34,7 @@ pub record TookStep (p : Plan) (kind : ℕ) (t : Track) (q : List Stop) (journal
 
 -- kept or committed
 unfoldable pub manner_of : Bool → ℕ → Manner
-manner_of keeps room = if keeps then kept room else committed
+manner_of keeps room = when keeps then kept room else committed
 
 -- stops taken until the descent ends: what it leaves is the rule's, but for the queue, which is still to be emptied; kept, the entries held
 -- stayed and newer ones came behind them; committed, none is held

@@ -3,7 +3,7 @@
 #![tactic(auto)]
 
 ghost use Rattle.std.specs.Prelude.{◌≡◌, true, false, ℕ, ◌-◌, ◌/◌, ◌<◌, ◌≤◌, ltb, length};
-ghost use Rattle.rules.specs.Lists.{if◌then◌else◌};
+ghost use Rattle.rules.specs.Lists.{when◌then◌else◌};
 ghost use Rattle.rules.specs.Ring.{recount};
 ghost use Rattle.rules.specs.Queue.{waiting};
 ghost use Rattle.rules.specs.Journal.{track_of, good_journal};
@@ -37,7 +37,7 @@ pub struct Descent {
 // Whether a kept descent has too little room for a step.
 fn short(keeps: bool, room: usize, held: usize) -> bool
     requires { held ≤ room }
-    ensures { result ≡ (if keeps then ltb (room - held) 100 else false) }
+    ensures { result ≡ (when keeps then ltb (room - held) 100 else false) }
 {
     if keeps {
         return room - held < STEP;
@@ -47,7 +47,7 @@ fn short(keeps: bool, room: usize, held: usize) -> bool
 
 // The entries that are kept: all in a kept descent, none in a committed one.
 fn kept(keeps: bool, held: usize) -> usize
-    ensures { result ≡ (if keeps then held else 0) }
+    ensures { result ≡ (when keeps then held else 0) }
 {
     if keeps {
         return held;

@@ -10,7 +10,7 @@ use lib.ListN.{length}
 use lib.Pow.{pow_mono}
 use borrow.Author.Tests.{le-leb, lt-leb, leb-true, eqb-true}
 use Rattle.rules.specs.Words.{Time, Round}
-use Rattle.rules.specs.Lists.{if◌then◌else◌}
+use Rattle.rules.specs.Lists.{when◌then◌else◌}
 use Rattle.rules.specs.Numbers.{verdict, within, exact_number}
 use Rattle.laws.proofs.ChoiceLaws.{and-true}
 use Rattle.exact.specs.Inner.{Number, Ready}
@@ -20,14 +20,14 @@ words_few n h = let z : n - 1 ≤ 24 = omega arith in (mul-le-mul h h, mul-le-mu
 
 -- the three checks
 checks : Bool → Bool → Bool → ℕ
-checks a b c = if a then (if b then (if c then 0 else 4) else 3) else 1
+checks a b c = when a then (when b then (when c then 0 else 4) else 3) else 1
 
 is_checks : (n : ℕ) (matrix : List Time) (round : Round) (table : List Time)
     → exact_number n matrix round table ≡ checks (leb 1 n && leb n 25) (eqb (length matrix) (n * n) && eqb (length round) n) (leb (2 ^ (n - 1) * (n - 1)) (length table))
 unfolding checks exact_number verdict within
 is_checks n matrix round table = refl
 
-first_of : (b c : Bool) (lengths room : ℕ) → lengths ≡ (if b then 0 else 3) → room ≡ (if c then 0 else 4) → (if eqb lengths 0 then room else lengths) ≡ checks true b c
+first_of : (b c : Bool) (lengths room : ℕ) → lengths ≡ (when b then 0 else 3) → room ≡ (when c then 0 else 4) → (when eqb lengths 0 then room else lengths) ≡ checks true b c
 unfolding checks
 first_of true c lengths room e f = rw e f
 first_of false c lengths room e f = rw e refl
@@ -54,9 +54,9 @@ module _ (n cells stops words : ℕ) where
   pub too_many : 25 < n → Number n cells stops words 1
   too_many h = outside (rw (le-leb 1 n (omega arith), lt-leb n 25 h))
 
-  pub in_range : 1 ≤ n → n ≤ 25 → (lengths : ℕ) → lengths ≡ (if eqb cells (n * n) && eqb stops n then 0 else 3)
-      → (room : ℕ) → room ≡ (if leb (2 ^ (n - 1) * (n - 1)) words then 0 else 4)
-      → (r : ℕ) → r ≡ (if eqb lengths 0 then room else lengths) → Number n cells stops words r
+  pub in_range : 1 ≤ n → n ≤ 25 → (lengths : ℕ) → lengths ≡ (when eqb cells (n * n) && eqb stops n then 0 else 3)
+      → (room : ℕ) → room ≡ (when leb (2 ^ (n - 1) * (n - 1)) words then 0 else 4)
+      → (r : ℕ) → r ≡ (when eqb lengths 0 then room else lengths) → Number n cells stops words r
   in_range low high lengths e room f r g =
       record {
         says = λ matrix round table c s w.

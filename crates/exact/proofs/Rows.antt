@@ -10,7 +10,7 @@ use lib.ListN.{length, set, length-set, replicate, get_or-replicate}
 use lib.Pow.{pow_pos}
 use lib.Seq.{get_or-set_same, get_or-set_other}
 use Rattle.rules.specs.Words.{Stop, Time}
-use Rattle.rules.specs.Lists.{if◌then◌else◌, at}
+use Rattle.rules.specs.Lists.{when◌then◌else◌, at}
 use Rattle.rules.specs.Plan.{leg_in}
 use Rattle.rules.specs.Table.{member, members, unreached, table_word}
 use Rattle.laws.proofs.ChoiceLaws.{either_if, true_false}
@@ -25,7 +25,7 @@ pub record Rowing (matrix : List Time) (n s : ℕ) (row : List Time) (left : ℕ
   pub within : left < 2 ^ (n - 1)
   pub long : length row ≡ 24
   pub inside : (j : Stop) → member left j ≡ true → member s j ≡ true
-  pub words : (j : Stop) → 1 ≤ j → j < n → at row (j - 1) ≡ (if member left j then unreached else table_word (leg_in n matrix) (n - 1) s j)
+  pub words : (j : Stop) → 1 ≤ j → j < n → at row (j - 1) ≡ (when member left j then unreached else table_word (leg_in n matrix) (n - 1) s j)
 
 pub rowing_starts : (matrix : List Time) (n s : ℕ) → n ≤ 25 → s < 2 ^ (n - 1) → (blank : Time) → blank ≡ 2147483647 → Rowing matrix n s (replicate 24 blank) s
 unfolding unreached
@@ -74,22 +74,22 @@ module _ {matrix : List Time} {n s : ℕ} {row : List Time} {left : ℕ} (h : Ro
           ∙ ap (onward (leg_in n matrix) k) (members_less s (n - 1) k (h.inside k l.there))
           ∙ sym (word_in (leg_in n matrix) (n - 1) s k (h.inside k l.there))
 
-      new : (j : Stop) → k ≡ j → at (set row (w - 1) v) (j - 1) ≡ (if member later j then unreached else table_word (leg_in n matrix) (n - 1) s j)
+      new : (j : Stop) → k ≡ j → at (set row (w - 1) v) (j - 1) ≡ (when member later j then unreached else table_word (leg_in n matrix) (n - 1) s j)
       new j q =
           let p : j - 1 ≡ w - 1 = omega arith in
           ap (at (set row (w - 1) v)) p ∙ get_or-set_same row (w - 1) v 0 (omega (arith, h.long, l.low)) ∙ is_word
           ∙ ap (table_word (leg_in n matrix) (n - 1) s) q
-          ∙ ap (λ (b : Bool). if b then unreached else table_word (leg_in n matrix) (n - 1) s j) (sym (ap (member later) (sym q) ∙ gone))
+          ∙ ap (λ (b : Bool). when b then unreached else table_word (leg_in n matrix) (n - 1) s j) (sym (ap (member later) (sym q) ∙ gone))
 
-      old : (j : Stop) → 1 ≤ j → j < n → k ≢ j → at (set row (w - 1) v) (j - 1) ≡ (if member later j then unreached else table_word (leg_in n matrix) (n - 1) s j)
+      old : (j : Stop) → 1 ≤ j → j < n → k ≢ j → at (set row (w - 1) v) (j - 1) ≡ (when member later j then unreached else table_word (leg_in n matrix) (n - 1) s j)
       old j low high ne =
           let d : j - 1 ≢ w - 1 = omega (arith, l.low) in
           get_or-set_other row (w - 1) (j - 1) v 0 d ∙ h.words j low high
-          ∙ ap (λ (b : Bool). if b then unreached else table_word (leg_in n matrix) (n - 1) s j) (sym (other j ne))
+          ∙ ap (λ (b : Bool). when b then unreached else table_word (leg_in n matrix) (n - 1) s j) (sym (other j ne))
 
 pub rowing_done : {matrix : List Time} {n s : ℕ} {row : List Time} {left : ℕ} → Rowing matrix n s row left → left ≡ 0 → Row matrix n s row
 rowing_done {matrix} {n} {s} h z =
     record {
       word = λ k low high. h.words k low high
-          ∙ ap (λ (b : Bool). if b then unreached else table_word (leg_in n matrix) (n - 1) s k) (ap (λ x. member x k) z ∙ member_none k);
+          ∙ ap (λ (b : Bool). when b then unreached else table_word (leg_in n matrix) (n - 1) s k) (ap (λ x. member x k) z ∙ member_none k);
     }

@@ -4,7 +4,7 @@
 #![tactic(auto)]
 
 ghost use Rattle.std.specs.Prelude.{◌≡◌, ◌+◌, ◌-◌, ◌*◌, ◌^◌, ◌<◌, ◌≤◌, ◌&&◌, eqb, leb, length};
-ghost use Rattle.rules.specs.Lists.{if◌then◌else◌};
+ghost use Rattle.rules.specs.Lists.{when◌then◌else◌};
 ghost use Rattle.rules.specs.Plan.{leg_in};
 ghost use Rattle.rules.specs.Table.{members};
 ghost use Rattle.rules.specs.Calls.{table_left};
@@ -180,7 +180,7 @@ fn run(matrix: &[u16], n: usize, table: &mut [u32], round: &mut [u32]) -> u32
 // 3 where a lent length is not what n says.
 fn lengths_number(n: usize, cells: usize, stops: usize) -> u32
     requires { n ≤ 25 }
-    ensures { result ≡ (if eqb cells (n * n) && eqb stops n then 0 else 3) }
+    ensures { result ≡ (when eqb cells (n * n) && eqb stops n then 0 else 3) }
 {
     if cells != n * n {
         return 3;
@@ -194,7 +194,7 @@ fn lengths_number(n: usize, cells: usize, stops: usize) -> u32
 // 4 where the table is too small.
 fn room_number(n: usize, words: usize) -> u32
     requires { (1 ≤ n) × (n ≤ 25) }
-    ensures { result ≡ (if leb (2 ^ (n - 1) * (n - 1)) words then 0 else 4) }
+    ensures { result ≡ (when leb (2 ^ (n - 1) * (n - 1)) words then 0 else 4) }
 {
     if words < power(n - 1) * (n - 1) {
         return 4;
@@ -204,7 +204,7 @@ fn room_number(n: usize, words: usize) -> u32
 
 // Of the numbers of two checks, that of the first that fails.
 fn first_number(one: u32, next: u32) -> u32
-    ensures { result ≡ (if eqb one 0 then next else one) }
+    ensures { result ≡ (when eqb one 0 then next else one) }
 {
     if one != 0 {
         return one;

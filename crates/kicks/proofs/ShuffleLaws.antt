@@ -7,7 +7,7 @@ use native.Mathlib.Omega.{arith}
 use lib.Dec.{eqb}
 use lib.ListN.{length}
 use Rattle.rules.specs.Words.{Place, Round}
-use Rattle.rules.specs.Lists.{if◌then◌else◌}
+use Rattle.rules.specs.Lists.{when◌then◌else◌}
 use Rattle.rules.specs.Draws.{drawn, moved, draws}
 use Rattle.rules.specs.Journal.{Track, swap, good_journal, track_of, doing}
 use Rattle.rules.specs.Kicks.{shuffle_spans, shuffled}
@@ -34,11 +34,11 @@ spans_long zero = refl
 spans_long (suc j) = ap suc (spans_long j)
 
 -- the first of j + 1 draws is for place start + j + 1
-shuffled_more : (start : Place) (v j : ℕ) (vs : List ℕ) (t : Track) → length vs ≡ j → shuffled start (v ∷ vs) t ≡ shuffled start vs (if eqb v (suc j) then t else doing (swap (start + v) (start + suc j)) t)
+shuffled_more : (start : Place) (v j : ℕ) (vs : List ℕ) (t : Track) → length vs ≡ j → shuffled start (v ∷ vs) t ≡ shuffled start vs (when eqb v (suc j) then t else doing (swap (start + v) (start + suc j)) t)
 unfolding shuffled
-shuffled_more start v j vs t e = ap (λ (m : ℕ). shuffled start vs (if eqb v (suc m) then t else doing (swap (start + v) (start + suc m)) t)) e
+shuffled_more start v j vs t e = ap (λ (m : ℕ). shuffled start vs (when eqb v (suc m) then t else doing (swap (start + v) (start + suc m)) t)) e
 
-shuffle_track : (start : Place) (j x x' v : ℕ) (t t' : Track) → 1 ≤ j → x' ≡ moved x → v ≡ drawn 0 j (moved x) → t' ≡ (if eqb v j then t else doing (swap (start + v) (start + j)) t)
+shuffle_track : (start : Place) (j x x' v : ℕ) (t t' : Track) → 1 ≤ j → x' ≡ moved x → v ≡ drawn 0 j (moved x) → t' ≡ (when eqb v j then t else doing (swap (start + v) (start + j)) t)
     → shuffled start (draws (shuffle_spans j) x').values t' ≡ shuffled start (draws (shuffle_spans (suc j)) x).values t
 unfolding shuffle_spans draws
 shuffle_track start zero x x' v t t' h ex ev et = absurd (omega arith)
@@ -80,7 +80,7 @@ module _ (start : Place) (len x₀ : ℕ) (round₀ : Round) (journal₀ : List 
   module _ (round : Round) (places : List Place) (journal : List ℕ) (x h k : ℕ) (s : Shuffling start len x₀ round₀ journal₀ held round places journal x h k) where
     -- one place more
     pub shuffle_turn : (round' : Round) (places' : List Place) (journal' : List ℕ) (x' h' v : ℕ) → 2 ≤ k → x' ≡ moved x → (0 < x → 0 < x') → v ≡ drawn 0 (k - 1) (moved x)
-        → Moved (if eqb v (k - 1) then track_of round journal h else doing (swap (start + v) (start + (k - 1))) (track_of round journal h)) journal h round' places' journal' h'
+        → Moved (when eqb v (k - 1) then track_of round journal h else doing (swap (start + v) (start + (k - 1))) (track_of round journal h)) journal h round' places' journal' h'
         → Shuffling start len x₀ round₀ journal₀ held round' places' journal' x' h' (k - 1)
     shuffle_turn round' places' journal' x' h' v two ex some ev m =
         let one : 1 ≤ k - 1 = omega arith in

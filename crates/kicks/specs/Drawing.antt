@@ -1,7 +1,7 @@
 -- What a kick draws before it moves stops: lengths of segments, and where they start. Assumes nothing.
 use Rattle.std.specs.Prelude.{ℕ, ◌+◌, ◌-◌, ◌*◌, ◌/◌, ◌≤◌, ◌<◌, ◌≡◌, [], ◌∷◌, eqb}
 use Rattle.rules.specs.Words.{Place}
-use Rattle.rules.specs.Lists.{if◌then◌else◌}
+use Rattle.rules.specs.Lists.{when◌then◌else◌}
 use Rattle.rules.specs.Draws.{◌to◌, drawn, moved, draws}
 use Rattle.rules.specs.Kicks.{longest, spans}
 use Rattle.kicks.specs.Exchanging.{Segments}
@@ -13,14 +13,14 @@ pub record Longest (n r : ℕ) : Type 0 where
 
 -- the middle length r, which a swap kick does not draw, and the state
 pub record Middle (kind high x new r : ℕ) : Type 0 where
-  pub state : new ≡ (if eqb kind 0 then moved x else x)
-  pub is : r ≡ (if eqb kind 0 then drawn 1 high (moved x) else 0)
+  pub state : new ≡ (when eqb kind 0 then moved x else x)
+  pub is : r ≡ (when eqb kind 0 then drawn 1 high (moved x) else 0)
   pub some : 0 < x → 0 < new
   pub most : r ≤ high
 
 -- segments of a, b and c places from `start` on, drawn for a kick of kind 0 or 1 out of the state x
 pub record CutDrawn (n kind x new : ℕ) (start : Place) (a b c : ℕ) : Type 0 where
-  pub is : draws (spans n kind) x ≡ record { values = if eqb kind 0 then (a ∷ b ∷ c ∷ start ∷ []) else (a ∷ c ∷ start ∷ []); state = new }
+  pub is : draws (spans n kind) x ≡ record { values = when eqb kind 0 then (a ∷ b ∷ c ∷ start ∷ []) else (a ∷ c ∷ start ∷ []); state = new }
   pub middle : kind ≡ 1 → b ≡ 0
   pub some : 0 < x → 0 < new
   pub segments : Segments n start a b c

@@ -1,7 +1,7 @@
 -- Two segments that change places, with a third between them that may be empty: p X Y Z q becomes p Z Y X q. Assumes nothing.
 use Rattle.std.specs.Prelude.{ℕ, ◌+◌, ◌-◌, ◌%◌, ◌<◌, Bool, true, false, List, [], ◌∷◌, eqb, length}
 use Rattle.rules.specs.Words.{Stop, Place, Time, Round, Legs}
-use Rattle.rules.specs.Lists.{if◌then◌else◌, at}
+use Rattle.rules.specs.Lists.{when◌then◌else◌, at}
 use Rattle.rules.specs.Journal.{Track}
 use Rattle.rules.specs.SharedWords.{Is}
 use Rattle.rules.specs.Kicks.{Kicked, segment_kick}
@@ -19,12 +19,12 @@ stop_on r start k = at r ((start + k) % length r)
 
 -- the legs that join p, X, Y, Z and q
 unfoldable pub joining : Legs → ℕ → Stop → Stop → Stop → Stop → Stop → Stop → Stop → Stop → Time
-joining d b p x0 x1 y0 y1 z0 z1 q = d p x0 + (if eqb b 0 then d x1 z0 else d x1 y0 + d y1 z0) + d z1 q
+joining d b p x0 x1 y0 y1 z0 z1 q = d p x0 + (when eqb b 0 then d x1 z0 else d x1 y0 + d y1 z0) + d z1 q
 
 -- the ends in the order in which a kick queues them: a double bridge, or segments
 unfoldable pub queued : Bool → ℕ → Stop → Stop → Stop → Stop → Stop → Stop → Stop → Stop → List Stop
 queued true b p x0 x1 y0 y1 z0 z1 q = q ∷ p ∷ x0 ∷ x1 ∷ y0 ∷ y1 ∷ z0 ∷ z1 ∷ []
-queued false b p x0 x1 y0 y1 z0 z1 q = p ∷ x0 ∷ x1 ∷ z0 ∷ z1 ∷ q ∷ (if eqb b 0 then [] else (y0 ∷ y1 ∷ []))
+queued false b p x0 x1 y0 y1 z0 z1 q = p ∷ x0 ∷ x1 ∷ z0 ∷ z1 ∷ q ∷ (when eqb b 0 then [] else (y0 ∷ y1 ∷ []))
 
 -- the eight stops beside the cuts
 pub record EndsOf (r : Round) (start : Place) (a b c : ℕ) (p x0 x1 y0 y1 z0 z1 q : Stop) : Type 0 where

@@ -1,7 +1,7 @@
 -- What the kicks ask and promise. Assumes nothing.
 use Rattle.std.specs.Prelude.{ℕ, ◌+◌, ◌-◌, ◌≤◌, ◌<◌, ◌≡◌, true, List, [], ◌∷◌, ltb, length, drop}
 use Rattle.rules.specs.Words.{Stop, Place, Time, Round, Legs}
-use Rattle.rules.specs.Lists.{if◌then◌else◌, at}
+use Rattle.rules.specs.Lists.{when◌then◌else◌, at}
 use Rattle.rules.specs.Draws.{◌to◌, draws}
 use Rattle.rules.specs.Queue.{push_all}
 use Rattle.rules.specs.Journal.{Track, good_journal, track_of}
@@ -62,7 +62,7 @@ shuffle_drawn d x t =
 unfoldable pub window_drawn : Legs → ℕ → Track → Kick
 window_drawn d x t =
     let g = draws ((0 to (length t.round - 30)) ∷ shuffle_spans 30) x in
-    if ltb (length t.round) 32 then record { made = still t; draw = x } else
+    when ltb (length t.round) 32 then record { made = still t; draw = x } else
     record { made = window_kick d (at g.values 0) (drop 1 g.values) t; draw = g.state }
 
 unfoldable pub global_drawn : Legs → ℕ → Track → Kick

@@ -1,6 +1,6 @@
 // Places shuffled, each exchange journalled.
 ghost use Rattle.std.specs.Prelude.{◌≡◌, ℕ, ◌+◌, ◌-◌, ◌≤◌, ◌<◌, eqb, length};
-ghost use Rattle.rules.specs.Lists.{if◌then◌else◌};
+ghost use Rattle.rules.specs.Lists.{when◌then◌else◌};
 ghost use Rattle.rules.specs.Draws.{draws};
 ghost use Rattle.rules.specs.Journal.{swap as swap_of, track_of, doing};
 ghost use Rattle.rules.specs.Kicks.{shuffle_spans, shuffled};
@@ -26,7 +26,7 @@ fn exchange_drawn(
     requires k_in_bounds { start.0 + k < length round.old }
     requires r_le_k { r ≤ k }
     requires journalled { Journalled (length round.old) journal.old held 1 }
-    ensures { Moved (if eqb r k then track_of round.old journal.old held else doing (swap_of (start.0 + r) (start.0 + k)) (track_of round.old journal.old held)) journal.old held round.new places.new journal.new result }
+    ensures { Moved (when eqb r k then track_of round.old journal.old held else doing (swap_of (start.0 + r) (start.0 + k)) (track_of round.old journal.old held)) journal.old held round.new places.new journal.new result }
 {
     if r == k {
         return held;

@@ -4,16 +4,16 @@ use mathlib.Core.Path.{◌≡◌, refl, subst, sym}
 use mathlib.Core.Bool.{Bool, ◌&&◌, ◌||◌, false, not, true}
 use mathlib.Core.Logic.{◌⊎◌, inl, inr}
 use lib.Dec.{T}
-use Rattle.rules.specs.Lists.{if◌then◌else◌}
+use Rattle.rules.specs.Lists.{when◌then◌else◌}
 
 module _ {A : Type 0} (Q : A → Type 0) where
   -- a choice by a test
-  pub either_way : (b : Bool) {x y : A} → Q x → Q y → Q (if b then x else y)
+  pub either_way : (b : Bool) {x y : A} → Q x → Q y → Q (when b then x else y)
   either_way true h k = h
   either_way false h k = k
 
   -- the same, with what the test said
-  pub either_if : (b : Bool) {x y : A} → (b ≡ true → Q x) → (b ≡ false → Q y) → Q (if b then x else y)
+  pub either_if : (b : Bool) {x y : A} → (b ≡ true → Q x) → (b ≡ false → Q y) → Q (when b then x else y)
   either_if true h k = h refl
   either_if false h k = k refl
 
@@ -53,7 +53,7 @@ and-true true b e = (refl, e)
 and-true false b e = absurd (true_false (sym e))
 
 -- the same of a test that is only made where another holds
-pub both_true : (a b : Bool) → (if a then b else false) ≡ true → (a ≡ true) × (b ≡ true)
+pub both_true : (a b : Bool) → (when a then b else false) ≡ true → (a ≡ true) × (b ≡ true)
 both_true true b e = (refl, e)
 both_true false b e = absurd (true_false (sym e))
 

@@ -8,7 +8,7 @@ use lib.Dec.{ltb}
 use lib.ListN.{length}
 use borrow.Author.Tests.{lt-ltb, le-ltb}
 use Rattle.rules.specs.Words.{Stop, Time, Round, Legs}
-use Rattle.rules.specs.Lists.{if◌then◌else◌, rising}
+use Rattle.rules.specs.Lists.{when◌then◌else◌, rising}
 use Rattle.rules.specs.Ring.{along, lap, recount}
 use Rattle.rules.specs.Start.{without}
 use Rattle.rules.specs.Exact.{Before, same, less, more, Exact, rounds, cheapest_of, exact_round}
@@ -150,7 +150,7 @@ module _ (d : Legs) where
   kept so (q ∷ rs) s = go (dec_lt (recount d q) (recount d so)) (kept q rs s.1) (kept so rs (λ x h. s.0 x (down h), s.1.1))
     where
       go : Dec (recount d q < recount d so) → Kept d (q ∷ rs) (cheapest_of d q rs) → Kept d (so ∷ rs) (cheapest_of d so rs)
-          → Kept d (so ∷ q ∷ rs) (cheapest_of d (if ltb (recount d q) (recount d so) then q else so) rs)
+          → Kept d (so ∷ q ∷ rs) (cheapest_of d (when ltb (recount d q) (recount d so) then q else so) rs)
       go (yes l) k k' = rw (lt-ltb (recount d q) (recount d so) l) (kept_later so q rs (cheapest_of d q rs) l k)
       go (no l) k k' = rw (le-ltb (recount d q) (recount d so) (omega arith)) (kept_sooner so q rs (cheapest_of d so rs) (omega arith) (s.0 q top) k')
 

@@ -8,7 +8,7 @@ use native.Mathlib.Omega.{arith}
 use lib.Dec.{eqb, leb, ltb}
 use lib.ListN.{length}
 use borrow.Author.Tests.{eq-eqb, eqb-false, eqb-true, le-ltb, leb-false, lt-leb, ltb-false, ne_eqb, not-false}
-use Rattle.rules.specs.Lists.{at, every, if◌then◌else◌, rising, same}
+use Rattle.rules.specs.Lists.{at, every, when◌then◌else◌, rising, same}
 use Rattle.rules.specs.Numbers.{good_list, long, symmetric, within}
 use Rattle.rules.specs.Words.{Legs, Stop}
 use Rattle.laws.proofs.CheckLaws.{same_is, same_self}
@@ -38,7 +38,7 @@ unfolding every
 one_fails p [] e = absurd (true_false e)
 one_fails p (x ∷ l) e = go (p x) refl e (λ q. one_fails p l q)
   where
-    go : (b : Bool) → p x ≡ b → (if b then every p l else false) ≡ false → (every p l ≡ false → (i : ℕ) × (i < length l) × (p (at l i) ≡ false)) → (i : ℕ) × (i < length (x ∷ l)) × (p (at (x ∷ l) i) ≡ false)
+    go : (b : Bool) → p x ≡ b → (when b then every p l else false) ≡ false → (every p l ≡ false → (i : ℕ) × (i < length l) × (p (at l i) ≡ false)) → (i : ℕ) × (i < length (x ∷ l)) × (p (at (x ∷ l) i) ≡ false)
     go true h e f = let r = f e in (suc r.0, omega (arith, r.1), r.2)
     go false h e f = (0, omega arith, h)
 
@@ -76,7 +76,7 @@ pub one_long : (n a : ℕ) (l : List ℕ) → long n (a ∷ l) ≡ false → (a 
 unfolding long every
 one_long n a l e = go (eqb a n) refl e
   where
-    go : (b : Bool) → eqb a n ≡ b → (if b then every (λ w. eqb w n) l else false) ≡ false → (a ≢ n) ⊎ (every (λ w. eqb w n) l ≡ false)
+    go : (b : Bool) → eqb a n ≡ b → (when b then every (λ w. eqb w n) l else false) ≡ false → (a ≢ n) ⊎ (every (λ w. eqb w n) l ≡ false)
     go true h e = inr e
     go false h e = inl (eqb-false a n h)
 

@@ -9,7 +9,7 @@ use lib.Dec.{ltb, eqb}
 use lib.ListN.{length}
 use borrow.Author.Tests.{lt-ltb}
 use Rattle.rules.specs.Words.{Place, Legs}
-use Rattle.rules.specs.Lists.{if◌then◌else◌, at}
+use Rattle.rules.specs.Lists.{when◌then◌else◌, at}
 use Rattle.rules.specs.Draws.{Span, ◌to◌, Drawn, drawn, moved, draws}
 use Rattle.rules.specs.Journal.{Track}
 use Rattle.rules.specs.Kicks.{Kicked, Kick, kind_at, longest, global_spans, spans, segment_kick, global_kick, kicked, kick}
@@ -28,7 +28,7 @@ pub kind_stays : (n kind : ℕ) → kind ≤ 2 → (kind_at n kind ≡ 2 → ⊥
 unfolding kind_at
 kind_stays n kind h two = go (ltb (longest n) 2) two
   where
-    go : (l : Bool) → ((if l then 2 else kind) ≡ 2 → ⊥) → (kind ≤ 1) × ((if l then 2 else kind) ≡ kind)
+    go : (l : Bool) → ((when l then 2 else kind) ≡ 2 → ⊥) → (kind ≤ 1) × ((when l then 2 else kind) ≡ kind)
     go true f = absurd (f refl)
     go false f = (omega arith, refl)
 
@@ -37,7 +37,7 @@ kind_stays n kind h two = go (ltb (longest n) 2) two
 abbrev spans_by : ℕ → ℕ → List Span
 spans_by n kind = elim kind as (λ k. List Span) [
   | zero ↦ (1 to longest n) ∷ (1 to longest n) ∷ (1 to longest n) ∷ (0 to (n - 1)) ∷ []
-  | suc k ↦ if eqb k 0 then ((1 to longest n) ∷ (1 to longest n) ∷ (0 to (n - 1)) ∷ []) else global_spans n
+  | suc k ↦ when eqb k 0 then ((1 to longest n) ∷ (1 to longest n) ∷ (0 to (n - 1)) ∷ []) else global_spans n
 ]
 
 spans_stay : (n kind : ℕ) → kind_at n kind ≡ kind → spans n kind ≡ spans_by n kind
@@ -47,10 +47,10 @@ spans_stay n kind k = ap (spans_by n) k
 -- a, b, c, start; without b in a swap kick
 pub cut_drawn : (n kind x x1 x2 x3 x4 a b c s : ℕ) → kind_at n kind ≡ kind → kind ≤ 1
     → x1 ≡ moved x → a ≡ drawn 1 (longest n) (moved x)
-    → x2 ≡ (if eqb kind 0 then moved x1 else x1) → b ≡ (if eqb kind 0 then drawn 1 (longest n) (moved x1) else 0)
+    → x2 ≡ (when eqb kind 0 then moved x1 else x1) → b ≡ (when eqb kind 0 then drawn 1 (longest n) (moved x1) else 0)
     → x3 ≡ moved x2 → c ≡ drawn 1 (longest n) (moved x2)
     → x4 ≡ moved x3 → s ≡ drawn 0 (n - 1) (moved x3)
-    → draws (spans n kind) x ≡ record { values = if eqb kind 0 then (a ∷ b ∷ c ∷ s ∷ []) else (a ∷ c ∷ s ∷ []); state = x4 }
+    → draws (spans n kind) x ≡ record { values = when eqb kind 0 then (a ∷ b ∷ c ∷ s ∷ []) else (a ∷ c ∷ s ∷ []); state = x4 }
 unfolding draws
 cut_drawn n zero x x1 x2 x3 x4 a b c s k le e1 ea e2 eb e3 ec e4 es = rw (spans_stay n 0 k, e4, es, ec, e3, eb, e2, ea, e1) refl
 cut_drawn n (suc zero) x x1 x2 x3 x4 a b c s k le e1 ea e2 eb e3 ec e4 es = rw (spans_stay n 1 k, e4, es, ec, e3, e2, ea, e1) refl
@@ -75,7 +75,7 @@ draws_after (s ∷ ss) us x = ap (λ (g : Drawn). record { values = drawn s.low 
 abbrev kicked_by : Legs → List ℕ → Track → ℕ → Kicked
 kicked_by d vs t kind = elim kind as (λ k. Kicked) [
   | zero ↦ segment_kick d (at vs 0) (at vs 1) (at vs 2) (at vs 3) t
-  | suc k ↦ if eqb k 0 then segment_kick d (at vs 0) 0 (at vs 1) (at vs 2) t else global_kick d vs t
+  | suc k ↦ when eqb k 0 then segment_kick d (at vs 0) 0 (at vs 1) (at vs 2) t else global_kick d vs t
 ]
 
 -- a global kick
@@ -86,7 +86,7 @@ kick_global d kind x t e = ap (λ (k : ℕ). record { made = kicked_by d (draws 
 
 -- segments
 pub kick_segment : (d : Legs) (kind x new : ℕ) (start : Place) (a b c : ℕ) (t : Track) → kind_at (length t.round) kind ≡ kind → kind ≤ 1
-    → draws (spans (length t.round) kind) x ≡ record { values = if eqb kind 0 then (a ∷ b ∷ c ∷ start ∷ []) else (a ∷ c ∷ start ∷ []); state = new } → (kind ≡ 1 → b ≡ 0)
+    → draws (spans (length t.round) kind) x ≡ record { values = when eqb kind 0 then (a ∷ b ∷ c ∷ start ∷ []) else (a ∷ c ∷ start ∷ []); state = new } → (kind ≡ 1 → b ≡ 0)
     → kick d kind x t ≡ record { made = segment_kick d a b c start t; draw = new }
 unfolding kick kicked
 kick_segment d zero x new start a b c t e h g m =

@@ -10,7 +10,7 @@ use lib.ListN.{drop, length, length-append, take}
 use lib.Seq.{length-take-le}
 use Rattle.rules.specs.Journal.{Track, doing, swap}
 use Rattle.rules.specs.Kicks.{Kicked, and_then, bridge_kick, segment_kick, shuffle_kick, shuffled, window_kick}
-use Rattle.rules.specs.Lists.{at, if◌then◌else◌}
+use Rattle.rules.specs.Lists.{at, when◌then◌else◌}
 use Rattle.rules.specs.Numbers.{long}
 use Rattle.rules.specs.Ring.{prev, turn}
 use Rattle.rules.specs.Words.{Legs, Place}
@@ -72,7 +72,7 @@ since_shuffled start [] t Shuffles.none h = since_refl 0 t
 since_shuffled start (v ∷ vs) t (Shuffles.more q c) h =
     let n = length t.round in
     let k = length (v ∷ vs) in
-    let u = (if eqb v k then t else doing (swap (start + v) (start + k)) t) in
+    let u = (when eqb v k then t else doing (swap (start + v) (start + k)) t) in
     let lv : start + v < n = omega arith in
     let lk : start + k < n = omega arith in
     let one : Since t 1 u = either_way (Since t 1) (eqb v k) (since_refl 1 t) (since_doing (swap (start + v) (start + k)) t (in_swap n (start + v) (start + k) lv lk)) in

@@ -11,7 +11,7 @@ use borrow.Author.Tests.{ltb-false, ltb-true}
 use Rattle.rules.specs.Draws.{Span, ◌to◌, draws}
 use Rattle.rules.specs.Journal.{Track}
 use Rattle.rules.specs.Kicks.{Kicked, and_then, bridge_kick, global_kick, global_spans, kick, kicked, kicked_state, kind_at, longest, segment_kick, shuffle_kick, shuffle_spans, spans, window_kick}
-use Rattle.rules.specs.Lists.{at, if◌then◌else◌}
+use Rattle.rules.specs.Lists.{at, when◌then◌else◌}
 use Rattle.rules.specs.Numbers.{long}
 use Rattle.rules.specs.Queue.{push_all}
 use Rattle.rules.specs.Ring.{recount}
@@ -50,8 +50,8 @@ module _ (d : Legs) (t : Track) (pm : Perm t.round) (pos : 1 ≤ length t.round)
   global_kicks vs f = go (ltb (length t.round) 8) refl f
     where
       go2 : 8 ≤ length t.round → (c : Bool) → ltb (length t.round) 32 ≡ c
-          → InSpans ((1 to length t.round / 4) ∷ (1 to length t.round / 4) ∷ (1 to length t.round / 4) ∷ (if c then [] else ((0 to (length t.round - 30)) ∷ shuffle_spans 30))) vs
-          → Kicks d t 30 (if c then bridge_kick d (at vs 0) (at vs 1) (at vs 2) t else and_then (bridge_kick d (at vs 0) (at vs 1) (at vs 2) t) (window_kick d (at vs 3) (drop 4 vs)))
+          → InSpans ((1 to length t.round / 4) ∷ (1 to length t.round / 4) ∷ (1 to length t.round / 4) ∷ (when c then [] else ((0 to (length t.round - 30)) ∷ shuffle_spans 30))) vs
+          → Kicks d t 30 (when c then bridge_kick d (at vs 0) (at vs 1) (at vs 2) t else and_then (bridge_kick d (at vs 0) (at vs 1) (at vs 2) t) (window_kick d (at vs 3) (drop 4 vs)))
       go2 long true e f = kicks_more 1 30 _ (bridged vs [] long f) (omega arith)
       go2 long false e f =
           let n = length t.round in
@@ -66,8 +66,8 @@ module _ (d : Legs) (t : Track) (pm : Perm t.round) (pos : 1 ≤ length t.round)
           then_kicks d t 1 29 k (window_kick d (at vs 3) (drop 4 vs)) b (window_kicks d k.track (since_perm b.since pm) (at vs 3) (drop 4 vs) g.0 g.1 (omega (arith, left.1)) (omega arith))
 
       go : (c : Bool) → ltb (length t.round) 8 ≡ c
-          → InSpans (if c then shuffle_spans (length t.round) else ((1 to length t.round / 4) ∷ (1 to length t.round / 4) ∷ (1 to length t.round / 4) ∷ (if ltb (length t.round) 32 then [] else ((0 to (length t.round - 30)) ∷ shuffle_spans 30)))) vs
-          → Kicks d t 30 (if c then shuffle_kick d vs t else (if ltb (length t.round) 32 then bridge_kick d (at vs 0) (at vs 1) (at vs 2) t else and_then (bridge_kick d (at vs 0) (at vs 1) (at vs 2) t) (window_kick d (at vs 3) (drop 4 vs))))
+          → InSpans (when c then shuffle_spans (length t.round) else ((1 to length t.round / 4) ∷ (1 to length t.round / 4) ∷ (1 to length t.round / 4) ∷ (when ltb (length t.round) 32 then [] else ((0 to (length t.round - 30)) ∷ shuffle_spans 30)))) vs
+          → Kicks d t 30 (when c then shuffle_kick d vs t else (when ltb (length t.round) 32 then bridge_kick d (at vs 0) (at vs 1) (at vs 2) t else and_then (bridge_kick d (at vs 0) (at vs 1) (at vs 2) t) (window_kick d (at vs 3) (drop 4 vs))))
       go true e f =
           let g = shuffle_in (length t.round) vs f in
           let l : length vs ≡ length t.round - 1 = g.1 in
@@ -80,8 +80,8 @@ module _ (d : Legs) (t : Track) (pm : Perm t.round) (pos : 1 ≤ length t.round)
   kicked_kicks kind vs f = go (kind_at (length t.round) kind) f
     where
       swaps : (c : Bool)
-          → InSpans (if c then ((1 to longest (length t.round)) ∷ (1 to longest (length t.round)) ∷ (0 to (length t.round - 1)) ∷ []) else global_spans (length t.round)) vs
-          → Kicks d t 30 (if c then segment_kick d (at vs 0) 0 (at vs 1) (at vs 2) t else global_kick d vs t)
+          → InSpans (when c then ((1 to longest (length t.round)) ∷ (1 to longest (length t.round)) ∷ (0 to (length t.round - 1)) ∷ []) else global_spans (length t.round)) vs
+          → Kicks d t 30 (when c then segment_kick d (at vs 0) 0 (at vs 1) (at vs 2) t else global_kick d vs t)
       swaps true f =
           let n = length t.round in
           let q = 1 to longest n in
@@ -93,8 +93,8 @@ module _ (d : Legs) (t : Track) (pm : Perm t.round) (pos : 1 ≤ length t.round)
       swaps false f = global_kicks vs f
 
       go : (m : ℕ)
-          → InSpans (elim m as (λ x. List Span) [ zero ↦ (1 to longest (length t.round)) ∷ (1 to longest (length t.round)) ∷ (1 to longest (length t.round)) ∷ (0 to (length t.round - 1)) ∷ [] | suc k ↦ if eqb k 0 then ((1 to longest (length t.round)) ∷ (1 to longest (length t.round)) ∷ (0 to (length t.round - 1)) ∷ []) else global_spans (length t.round) ]) vs
-          → Kicks d t 30 (elim m as (λ x. Kicked) [ zero ↦ segment_kick d (at vs 0) (at vs 1) (at vs 2) (at vs 3) t | suc k ↦ if eqb k 0 then segment_kick d (at vs 0) 0 (at vs 1) (at vs 2) t else global_kick d vs t ])
+          → InSpans (elim m as (λ x. List Span) [ zero ↦ (1 to longest (length t.round)) ∷ (1 to longest (length t.round)) ∷ (1 to longest (length t.round)) ∷ (0 to (length t.round - 1)) ∷ [] | suc k ↦ when eqb k 0 then ((1 to longest (length t.round)) ∷ (1 to longest (length t.round)) ∷ (0 to (length t.round - 1)) ∷ []) else global_spans (length t.round) ]) vs
+          → Kicks d t 30 (elim m as (λ x. Kicked) [ zero ↦ segment_kick d (at vs 0) (at vs 1) (at vs 2) (at vs 3) t | suc k ↦ when eqb k 0 then segment_kick d (at vs 0) 0 (at vs 1) (at vs 2) t else global_kick d vs t ])
       go zero f =
           let n = length t.round in
           let q = 1 to longest n in

@@ -9,7 +9,7 @@ use lib.ListN.{length}
 use borrow.Author.Tests.{ltb-false}
 use Rattle.rules.specs.Improve.{Found, Trial, ends_of, first_closing, touching, trials}
 use Rattle.rules.specs.Journal.{Track}
-use Rattle.rules.specs.Lists.{if◌then◌else◌, keep}
+use Rattle.rules.specs.Lists.{when◌then◌else◌, keep}
 use Rattle.rules.specs.Lk3.{breadth3, level3, lk3_from, lk3_side, may_go_on, moved3, try_each3}
 use Rattle.rules.specs.Moves.{seq3}
 use Rattle.rules.specs.Plan.{Plan, alpha_of, leg_of}
@@ -61,7 +61,7 @@ module _ (p : Plan) (t0 : Track) (pm : Perm t0.round) (fit : Fit p (length t0.ro
       let worth : All (Worth (leg_of p) s.track fwd t1 t2 g) tried = trials_worth (leg_of p) s.track pm' fit'.even fwd t1 t2 g (alpha_of p) fit'.lists.alpha keep (λ P. all_keep) st in
       let f = first_closing (leg_of p) fwd t1 t2 s.track tried in
       let on = keep (may_go_on p s t2) tried in
-      let most = (if eqb levels 0 then [] else best (breadth3 (49 - levels)) [] on) in
+      let most = (when eqb levels 0 then [] else best (breadth3 (49 - levels)) [] on) in
       let goes : All (Worth (leg_of p) s.track fwd t1 t2 g) on = all_map {P = λ x. Worth (leg_of p) s.track fwd t1 t2 g x × (may_go_on p s t2 x ≡ true)} _ (λ x q. q.0) (all_keep (may_go_on p s t2) tried worth) in
       by_gain (Falls (leg_of p) s.track base) f.gain {x = try_each3 fwd t1 t2 s (level3 p t1 levels) most} {y = λ k. touching s.stops f}
       (λ e. try_each3_falls fwd t2 g s (level3 p t1 levels) most h (level3_falls levels)

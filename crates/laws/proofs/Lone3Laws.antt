@@ -9,7 +9,7 @@ use lib.ListN.{get_or-eq_default}
 use borrow.Author.Tests.{ne_eqb}
 use Rattle.rules.specs.Improve.{Found, Trial, first_closing, nothing, touching, trials}
 use Rattle.rules.specs.Journal.{Track}
-use Rattle.rules.specs.Lists.{if◌then◌else◌, keep}
+use Rattle.rules.specs.Lists.{when◌then◌else◌, keep}
 use Rattle.rules.specs.Lk3.{breadth3, level3, may_go_on, moved3, try_each3}
 use Rattle.rules.specs.Plan.{Plan, alpha_of, leg_of}
 use Rattle.rules.specs.Ring.{succ}
@@ -41,10 +41,10 @@ unfolding try_each3
 lone3_gains fwd t1 t2 s deeper x = by_gain (λ (z : Found). 0 < (deeper (moved3 fwd t1 t2 s x) x.t6 x.partial).gain → z ≡ deeper (moved3 fwd t1 t2 s x) x.t6 x.partial) (deeper (moved3 fwd t1 t2 s x) x.t6 x.partial).gain (λ e h. absurd (omega arith)) (λ g e h. refl)
 
 -- no continuation, and one, where another level is left
-none_left : (levels : ℕ) (xs : List Trial) → levels ≡ 0 → (if eqb levels 0 then [] else xs) ≡ []
+none_left : (levels : ℕ) (xs : List Trial) → levels ≡ 0 → (when eqb levels 0 then [] else xs) ≡ []
 none_left levels xs e = rw e
 
-some_left : (levels : ℕ) (xs : List Trial) → 0 < levels → (if eqb levels 0 then [] else xs) ≡ xs
+some_left : (levels : ℕ) (xs : List Trial) → 0 < levels → (when eqb levels 0 then [] else xs) ≡ xs
 some_left levels xs h = rw (ne_eqb levels 0 (λ e. omega arith))
 
 module _ (p : Plan) (t1 : Stop) (levels : ℕ) (s : Step) (t2 : Stop) (g : Time) (fwd : Bool) where
@@ -55,7 +55,7 @@ module _ (p : Plan) (t1 : Stop) (levels : ℕ) (s : Step) (t2 : Stop) (g : Time)
   -- a level, from what closes first
   unfoldable after : Found → Found
   after f = elim f.gain [
-    | zero ↦ try_each3 fwd t1 t2 s (level3 p t1 levels) (if eqb levels 0 then [] else best (breadth3 (49 - levels)) [] (keep (may_go_on p s t2) tried3))
+    | zero ↦ try_each3 fwd t1 t2 s (level3 p t1 levels) (when eqb levels 0 then [] else best (breadth3 (49 - levels)) [] (keep (may_go_on p s t2) tried3))
     | suc k ↦ touching s.stops f
   ]
 
@@ -72,9 +72,9 @@ module _ (p : Plan) (t1 : Stop) (levels : ℕ) (s : Step) (t2 : Stop) (g : Time)
         ∙ by_gain (λ (z : Found). z ≡ record { gain = f.gain; track = f.track; touched = s.stops ++ f.touched }) f.gain (λ q. absurd (omega arith)) (λ k q. touching_some s.stops f h)
 
     module _ (none : first_closing (leg_of p) fwd t1 t2 s.track tried3 ≡ nothing s.track) where
-      goes_on : level3 p t1 (suc levels) s t2 g ≡ try_each3 fwd t1 t2 s (level3 p t1 levels) (if eqb levels 0 then [] else best 1 [] (keep (may_go_on p s t2) tried3))
+      goes_on : level3 p t1 (suc levels) s t2 g ≡ try_each3 fwd t1 t2 s (level3 p t1 levels) (when eqb levels 0 then [] else best 1 [] (keep (may_go_on p s t2) tried3))
       unfolding after nothing
-      goes_on = level3_is way ∙ ap after none ∙ ap (λ (b : ℕ). try_each3 fwd t1 t2 s (level3 p t1 levels) (if eqb levels 0 then [] else best b [] (keep (may_go_on p s t2) tried3))) (breadth3_one (49 - levels))
+      goes_on = level3_is way ∙ ap after none ∙ ap (λ (b : ℕ). try_each3 fwd t1 t2 s (level3 p t1 levels) (when eqb levels 0 then [] else best b [] (keep (may_go_on p s t2) tried3))) (breadth3_one (49 - levels))
 
       pub level3_last : levels ≡ 0 → level3 p t1 (suc levels) s t2 g ≡ nothing s.track
       unfolding try_each3
@@ -82,7 +82,7 @@ module _ (p : Plan) (t1 : Stop) (levels : ℕ) (s : Step) (t2 : Stop) (g : Time)
 
       pub level3_off : best 1 [] (keep (may_go_on p s t2) tried3) ≡ [] → level3 p t1 (suc levels) s t2 g ≡ nothing s.track
       unfolding try_each3
-      level3_off e = goes_on ∙ ap (try_each3 fwd t1 t2 s (level3 p t1 levels)) (ap (λ (l : List Trial). if eqb levels 0 then [] else l) e ∙ either_way (λ (l : List Trial). l ≡ []) (eqb levels 0) refl refl)
+      level3_off e = goes_on ∙ ap (try_each3 fwd t1 t2 s (level3 p t1 levels)) (ap (λ (l : List Trial). when eqb levels 0 then [] else l) e ∙ either_way (λ (l : List Trial). l ≡ []) (eqb levels 0) refl refl)
 
       module _ (x : Trial) (is : best 1 [] (keep (may_go_on p s t2) tried3) ≡ x ∷ []) (more : 0 < levels) where
         on : level3 p t1 (suc levels) s t2 g ≡ try_each3 fwd t1 t2 s (level3 p t1 levels) (x ∷ [])
@@ -120,6 +120,6 @@ module _ (p : Plan) (t1 : Stop) where
       let fwd = eqb (succ s.track.round t1) t2 in
       let tried = trials (leg_of p) (leg_of p) (alpha_of p) keep fwd s.track.round t1 t2 g in
       let f = first_closing (leg_of p) fwd t1 t2 s.track tried in
-      let xs = (if eqb levels 0 then [] else best (breadth3 (49 - levels)) [] (keep (may_go_on p s t2) tried)) in
+      let xs = (when eqb levels 0 then [] else best (breadth3 (49 - levels)) [] (keep (may_go_on p s t2) tried)) in
       by_gain (λ (z : Found). z.gain ≡ 0 → z ≡ nothing s.track) f.gain {x = try_each3 fwd t1 t2 s (level3 p t1 levels) xs} {y = λ k. touching s.stops f}
       (λ q. each_none fwd t2 s (level3 p t1 levels) xs) (λ k q z. absurd (omega (arith, touching_gain s.stops f))) e

@@ -8,7 +8,7 @@ use native.Mathlib.Omega.{arith}
 use lib.Dec.{ltb}
 use borrow.Author.Tests.{lt-ltb, le-ltb}
 use Rattle.rules.specs.Words.{Stop, Time}
-use Rattle.rules.specs.Lists.{if◌then◌else◌}
+use Rattle.rules.specs.Lists.{when◌then◌else◌}
 use Rattle.rules.specs.Start.{nearest}
 use Rattle.laws.proofs.ChoiceLaws.{either_way}
 use Rattle.laws.proofs.InLaws.{In, top, down, in_some, in_past, Up, up_lower}
@@ -79,8 +79,8 @@ pub nearest_same : (f g : Stop → Time) (so : Stop) (l : List Stop) → ((v : S
 unfolding nearest
 nearest_same f g so [] e = refl
 nearest_same f g so (v ∷ l) e =
-    nearest_same f g (if ltb (f v) (f so) then v else so) l (λ u z. e u (among z))
-    ∙ ap (λ (b : Bool). nearest g (if b then v else so) l) (ap (λ x. ltb x (f so)) (e v (down top)) ∙ ap (λ x. ltb (g v) x) (e so top))
+    nearest_same f g (when ltb (f v) (f so) then v else so) l (λ u z. e u (among z))
+    ∙ ap (λ (b : Bool). nearest g (when b then v else so) l) (ap (λ x. ltb x (f so)) (e v (down top)) ∙ ap (λ x. ltb (g v) x) (e so top))
   where
-    among : {u : Stop} → In u ((if ltb (f v) (f so) then v else so) ∷ l) → In u (so ∷ v ∷ l)
+    among : {u : Stop} → In u ((when ltb (f v) (f so) then v else so) ∷ l) → In u (so ∷ v ∷ l)
     among {u} z = either_way (λ (w : Stop). In u (w ∷ l) → In u (so ∷ v ∷ l)) (ltb (f v) (f so)) (λ y. down y) (λ y. in_past v y) z

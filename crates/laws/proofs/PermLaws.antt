@@ -10,7 +10,7 @@ use native.Mathlib.Omega.{arith}
 use lib.Dec.{eqb, ltb}
 use lib.ListN.{length}
 use borrow.Author.Tests.{eq-eqb, eqb-true, lt-ltb, ltb-false, ltb-true}
-use Rattle.rules.specs.Lists.{at, every, if◌then◌else◌, one, rising, tally}
+use Rattle.rules.specs.Lists.{at, every, when◌then◌else◌, one, rising, tally}
 use Rattle.rules.specs.Ring.{ahead, behind, is_round, next, place, pred, prev, succ}
 use Rattle.rules.specs.Words.{Place, Round, Stop}
 use Rattle.laws.proofs.ChoiceLaws.{and-true, either_if, either_way}
@@ -80,7 +80,7 @@ total (suc n) f = f n + total n f
 
 unfoldable over : ℕ → List Stop → ℕ
 over n [] = 0
-over n (x ∷ r) = (if ltb x n then 0 else 1) + over n r
+over n (x ∷ r) = (when ltb x n then 0 else 1) + over n r
 
 total_ones : (n : ℕ) (f : ℕ → ℕ) → ((v : ℕ) → v < n → f v ≡ 1) → total n f ≡ n
 unfolding total

@@ -8,7 +8,7 @@ use native.Mathlib.Omega.{arith}
 use lib.Dec.{eqb}
 use lib.ListN.{length, length-append, take}
 use borrow.Author.Tests.{eqb-false, eqb-true, not-true}
-use Rattle.rules.specs.Lists.{at, has, if◌then◌else◌, once, one, tally}
+use Rattle.rules.specs.Lists.{at, has, when◌then◌else◌, once, one, tally}
 use Rattle.rules.specs.Queue.{push, push_all}
 use Rattle.rules.specs.Words.{Stop}
 use Rattle.laws.proofs.ChoiceLaws.{and-true, either_if, either_way, not_so, or-false, true_false}
@@ -123,12 +123,12 @@ push_all_behind q (v ∷ vs) =
     record { newer = h.newer ++ g.newer; is = g.is ∙ ap (λ l. l ++ g.newer) h.is ∙ append_assoc q h.newer g.newer }
 
 -- and who was pushed waits
-or_if : (a b c : Bool) → ((a || b) || c) ≡ (a || (if b then true else c))
+or_if : (a b c : Bool) → ((a || b) || c) ≡ (a || (when b then true else c))
 or_if true b c = refl
 or_if false true c = refl
 or_if false false c = refl
 
-if_or : (b a c : Bool) → (if b then true else (a || c)) ≡ ((if b then true else a) || c)
+if_or : (b a c : Bool) → (when b then true else (a || c)) ≡ ((when b then true else a) || c)
 if_or true a c = refl
 if_or false a c = refl
 
@@ -136,10 +136,10 @@ has_last : (q : List Stop) (v u : Stop) → has (q ++ (v ∷ [])) u ≡ (has q u
 unfolding has
 has_last [] v u = go (eqb v u)
   where
-    go : (b : Bool) → (if b then true else false) ≡ b
+    go : (b : Bool) → (when b then true else false) ≡ b
     go true = refl
     go false = refl
-has_last (x ∷ q) v u = ap (λ (b : Bool). if eqb x u then true else b) (has_last q v u) ∙ if_or (eqb x u) (has q u) (eqb v u)
+has_last (x ∷ q) v u = ap (λ (b : Bool). when eqb x u then true else b) (has_last q v u) ∙ if_or (eqb x u) (has q u) (eqb v u)
 
 -- one stop more waits
 pub push_has : (q : List Stop) (v u : Stop) → has (push q v) u ≡ (has q u || eqb v u)

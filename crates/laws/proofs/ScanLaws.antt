@@ -8,7 +8,7 @@ use lib.Dec.{ltb}
 use borrow.Author.Tests.{le-ltb, ltb-false, ltb-true}
 use Rattle.rules.specs.Improve.{Found, Trial, first_closing, nothing}
 use Rattle.rules.specs.Journal.{Track}
-use Rattle.rules.specs.Lists.{if◌then◌else◌, keep, keep_while}
+use Rattle.rules.specs.Lists.{when◌then◌else◌, keep, keep_while}
 use Rattle.rules.specs.Words.{Legs, Stop, Time}
 use Rattle.laws.proofs.ChoiceLaws.{either_if}
 use Rattle.laws.proofs.EveryLaws.{All, all_map, more, none}
@@ -47,6 +47,6 @@ scans_agree f g [] r = refl
 scans_agree f g (x ∷ xs) (step a r) =
     choose (ltb (f x) g) (ap (λ l. x ∷ l) (scans_agree f g xs r)) (λ y. let l : g ≤ f x = ltb-false (f x) g y in sym (keep_none f g xs (all_map xs (λ v h. omega arith) a)))
   where
-    choose : (b : Bool) {p q u v : List Stop} → p ≡ u → (b ≡ false → q ≡ v) → (if b then p else q) ≡ (if b then u else v)
+    choose : (b : Bool) {p q u v : List Stop} → p ≡ u → (b ≡ false → q ≡ v) → (when b then p else q) ≡ (when b then u else v)
     choose true h k = h
     choose false h k = k refl

@@ -14,7 +14,7 @@ use Rattle.rules.specs.Descend.{committed, descend, kept, short}
 use Rattle.rules.specs.Draws.{drawn, moved}
 use Rattle.rules.specs.Journal.{Track, cleared}
 use Rattle.rules.specs.Kicks.{Kicked, kick, kicked_state}
-use Rattle.rules.specs.Lists.{if◌then◌else◌}
+use Rattle.rules.specs.Lists.{when◌then◌else◌}
 use Rattle.rules.specs.Plan.{Plan, leg_of}
 use Rattle.rules.specs.Ring.{recount}
 use Rattle.rules.specs.Search.{Settings, Walk, kicked_once, restarted, shaken, turned, turns}
@@ -124,7 +124,7 @@ module _ (p : Plan) (o : Settings) (n : ℕ) (pos : 1 ≤ n) (lists : Lists p n)
       let hk = shaken_stands d n pos 32 0 w.draw s h in
       let ran = descend p o.step committed w.left k in
       let hr = descend_stands p o.step n lists committed w.left k hk in
-      let b : Whole n (if ltb ran.state.time w.best_time then ran.state.track.round else w.best) = either_way (Whole n) (ltb ran.state.time w.best_time) (record { perm = hr.perm; size = hr.size }) (record { perm = g.best_perm; size = g.best_size }) in
+      let b : Whole n (when ltb ran.state.time w.best_time then ran.state.track.round else w.best) = either_way (Whole n) (ltb ran.state.time w.best_time) (record { perm = hr.perm; size = hr.size }) (record { perm = g.best_perm; size = g.best_size }) in
       record {
         walks = record { stands = hr; empty = committed_empty p o.step w.left k; best_perm = b.perm; best_size = b.size };
         less = subst (λ l. (descend p o.step committed l k).left ≤ m) (sym e) (descend_takes p o.step committed m k (shaken_some d n pos 31 0 w.draw s h) refl);
@@ -136,7 +136,7 @@ module _ (p : Plan) (o : Settings) (n : ℕ) (pos : 1 ≤ n) (lists : Lists p n)
   kick_took slack m w e g =
       let d = leg_of p in
       let x = moved w.draw in
-      let kind = (if eqb (drawn 0 (o.one_in - 1) x) 0 then 2 else o.kind) in
+      let kind = (when eqb (drawn 0 (o.one_in - 1) x) 0 then 2 else o.kind) in
       let k = (shaken d 1 kind w.state x).state in
       let hk = shaken_stands d n pos 1 kind x w.state g.stands in
       let ran = descend p o.step (kept o.room) w.left k in
@@ -144,9 +144,9 @@ module _ (p : Plan) (o : Settings) (n : ℕ) (pos : 1 ≤ n) (lists : Lists p n)
       let s' = ran.state in
       let back = past_past (kick_past d n pos kind x w.state g.stands) (kept_past p o.step n lists o.room w.left k hk) in
       let undone : undo (recount d) s' ≡ load (recount d) w.state.track.round = undo_past (recount d) w.state.track s' back g.empty in
-      let walk_best = (if ltb s'.time w.walk_best then s'.time else w.walk_best) in
-      let b : Whole n (if ltb s'.time w.best_time then s'.track.round else w.best) = either_way (Whole n) (ltb s'.time w.best_time) (record { perm = hr.perm; size = hr.size }) (record { perm = g.best_perm; size = g.best_size }) in
-      let judged : Stood n (if leb s'.time (walk_best + slack) then commit s' else undo (recount d) s')
+      let walk_best = (when ltb s'.time w.walk_best then s'.time else w.walk_best) in
+      let b : Whole n (when ltb s'.time w.best_time then s'.track.round else w.best) = either_way (Whole n) (ltb s'.time w.best_time) (record { perm = hr.perm; size = hr.size }) (record { perm = g.best_perm; size = g.best_size }) in
+      let judged : Stood n (when leb s'.time (walk_best + slack) then commit s' else undo (recount d) s')
       = either_way (Stood n) (leb s'.time (walk_best + slack)) (commit_stood n s' hr) (subst (Stood n) (sym undone) (load_stood n (recount d) w.state.track.round g.stands.perm g.stands.size)) in
       let few : length k.track.journal ≤ 30 = omega (arith, kick_few d n pos kind x w.state g.stands, ap length g.empty) in
       record {
@@ -176,7 +176,7 @@ module _ (p : Plan) (o : Settings) where
   unfolding turned kicked_once restarted
   turned_best slack w = either_way (λ (v : Walk). v.best_time ≤ w.best_time) (ltb w.walk_fails o.restart) (lesser _ w.best_time) (lesser _ w.best_time)
     where
-      lesser : (a b : Time) → (if ltb a b then a else b) ≤ b
+      lesser : (a b : Time) → (when ltb a b then a else b) ≤ b
       lesser a b = either_if (λ c. c ≤ b) (ltb a b) (λ y. let h : a < b = ltb-true a b y in omega arith) (λ y. omega arith)
 
   pub turns_best : (slack : Time) (fuel : ℕ) (w : Walk) → (turns p o slack fuel w).best_time ≤ w.best_time

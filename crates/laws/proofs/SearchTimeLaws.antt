@@ -11,7 +11,7 @@ use borrow.Author.Tests.{eqb-false}
 use Rattle.rules.specs.Descend.{committed, descend, kept}
 use Rattle.rules.specs.Draws.{drawn, moved}
 use Rattle.rules.specs.Kicks.{kick, kicked_state}
-use Rattle.rules.specs.Lists.{if◌then◌else◌}
+use Rattle.rules.specs.Lists.{when◌then◌else◌}
 use Rattle.rules.specs.Plan.{Plan, leg_of}
 use Rattle.rules.specs.Ring.{is_round, recount}
 use Rattle.rules.specs.Search.{Answer, Settings, Walk, kicked_once, margin, restarted, search, search_from, shaken, turned, turns}
@@ -51,7 +51,7 @@ undo_time d s = refl
 
 module _ (p : Plan) (o : Settings) (n : ℕ) (pos : 1 ≤ n) (fit : Fit p n) (room : 130 ≤ o.room) where
   -- the better of two rounds, each with its recount
-  better_time : (r r' : Round) (time time' : Time) → time ≡ recount (leg_of p) r → time' ≡ recount (leg_of p) r' → (b : Bool) → (if b then time else time') ≡ recount (leg_of p) (if b then r else r')
+  better_time : (r r' : Round) (time time' : Time) → time ≡ recount (leg_of p) r → time' ≡ recount (leg_of p) r' → (b : Bool) → (when b then time else time') ≡ recount (leg_of p) (when b then r else r')
   better_time r r' time time' e e' true = e
   better_time r r' time time' e e' false = e'
 
@@ -70,11 +70,11 @@ module _ (p : Plan) (o : Settings) (n : ℕ) (pos : 1 ≤ n) (fit : Fit p n) (ro
   kick_times slack w g =
       let d = leg_of p in
       let x = moved w.draw in
-      let kind = (if eqb (drawn 0 (o.one_in - 1) x) 0 then 2 else o.kind) in
+      let kind = (when eqb (drawn 0 (o.one_in - 1) x) 0 then 2 else o.kind) in
       let k = (shaken d 1 kind w.state x).state in
       let s' = (descend p o.step (kept o.room) w.left k).state in
       let h = descend_sound p o.step (kept o.room) n fit w.left k (shaken_sound d n pos 1 kind x w.state (record { stands = g.walks.stands; carried = g.carried })) in
-      let walk_best = (if ltb s'.time w.walk_best then s'.time else w.walk_best) in (
+      let walk_best = (when ltb s'.time w.walk_best then s'.time else w.walk_best) in (
         either_way (λ (u : State). u.time ≡ recount d u.track.round) (leb s'.time (walk_best + slack)) (commit_sound d n s' h).carried (undo_time d s'),
         better_time s'.track.round w.best s'.time w.best_time h.carried g.best_carried (ltb s'.time w.best_time),
       )

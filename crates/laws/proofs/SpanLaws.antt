@@ -10,7 +10,7 @@ use lib.ListN.{drop, length}
 use borrow.Author.Tests.{ltb-false}
 use Rattle.rules.specs.Draws.{Span, ◌to◌, drawn, draws, moved}
 use Rattle.rules.specs.Kicks.{global_spans, kind_at, longest, shuffle_spans, spans}
-use Rattle.rules.specs.Lists.{at, if◌then◌else◌}
+use Rattle.rules.specs.Lists.{at, when◌then◌else◌}
 use Rattle.laws.proofs.ChoiceLaws.{either_if, either_way}
 use Rattle.laws.proofs.EveryLaws.{All}
 use Rattle.laws.proofs.KickTimeLaws.{Shuffles}
@@ -89,13 +89,13 @@ unfolding spans kind_at
 spans_wide n kind = go (ltb (longest n) 2) refl
   where
     pick : ℕ → List Span
-    pick m = elim m as (λ x. List Span) [ zero ↦ (1 to longest n) ∷ (1 to longest n) ∷ (1 to longest n) ∷ (0 to (n - 1)) ∷ [] | suc k ↦ if eqb k 0 then ((1 to longest n) ∷ (1 to longest n) ∷ (0 to (n - 1)) ∷ []) else global_spans n ]
+    pick m = elim m as (λ x. List Span) [ zero ↦ (1 to longest n) ∷ (1 to longest n) ∷ (1 to longest n) ∷ (0 to (n - 1)) ∷ [] | suc k ↦ when eqb k 0 then ((1 to longest n) ∷ (1 to longest n) ∷ (0 to (n - 1)) ∷ []) else global_spans n ]
 
     any : 1 ≤ longest n → (m : ℕ) → Wide (pick m)
     any q zero = All.more q (All.more q (All.more q (All.more {x = 0 to (n - 1)} (omega arith) All.none)))
     any q (suc k) = either_way Wide (eqb k 0) (All.more q (All.more q (All.more {x = 0 to (n - 1)} (omega arith) All.none))) (global_wide n)
 
-    go : (c : Bool) → ltb (longest n) 2 ≡ c → Wide (pick (if c then 2 else kind))
+    go : (c : Bool) → ltb (longest n) 2 ≡ c → Wide (pick (when c then 2 else kind))
     go true e = global_wide n
     go false e = let h : 2 ≤ longest n = ltb-false (longest n) 2 e in any (omega arith) kind
 

@@ -10,7 +10,7 @@ use borrow.Author.Tests.{ltb-true}
 use Rattle.rules.specs.Descend.{step_from}
 use Rattle.rules.specs.Improve.{Found, Trial, first_closing, improve, improve_both, nothing, or_else, touching, trials}
 use Rattle.rules.specs.Journal.{Track}
-use Rattle.rules.specs.Lists.{if◌then◌else◌, keep}
+use Rattle.rules.specs.Lists.{when◌then◌else◌, keep}
 use Rattle.rules.specs.Lk.{Best, deepen, lk_from, lk_side}
 use Rattle.rules.specs.Lk3.{breadth3, level3, lk3_from, lk3_side, may_go_on, moved3, try_each3}
 use Rattle.rules.specs.Plan.{Plan, alpha_of, leg_of}
@@ -83,7 +83,7 @@ module _ (p : Plan) (t1 : Stop) where
       let fwd = eqb (succ s.track.round t1) t2 in
       let tried = trials (leg_of p) (leg_of p) (alpha_of p) keep fwd s.track.round t1 t2 g in
       let f = first_closing (leg_of p) fwd t1 t2 s.track tried in
-      let on = (if eqb levels 0 then [] else best (breadth3 (49 - levels)) [] (keep (may_go_on p s t2) tried)) in
+      let on = (when eqb levels 0 then [] else best (breadth3 (49 - levels)) [] (keep (may_go_on p s t2) tried)) in
       by_gain (Stays s.track) f.gain {x = try_each3 fwd t1 t2 s (level3 p t1 levels) on} {y = λ k. touching s.stops f} (λ e. try_each3_stays fwd t2 s (level3 p t1 levels) on)
       (λ k e. stays_touching s.track s.stops f (stays_closing (leg_of p) fwd t1 t2 s.track tried))
 

@@ -11,7 +11,7 @@ use borrow.Author.Tests.{ltb-true}
 use Rattle.rules.specs.Descend.{step_from}
 use Rattle.rules.specs.Improve.{Found, Trial, ends_of, first_closing, free3, improve, improve_both, nothing, or_else, touching, trials}
 use Rattle.rules.specs.Journal.{Track}
-use Rattle.rules.specs.Lists.{if◌then◌else◌, keep, keep_while}
+use Rattle.rules.specs.Lists.{when◌then◌else◌, keep, keep_while}
 use Rattle.rules.specs.Lk.{Best, better, cont_of, conts, deepen, flipped, lk_from, lk_side, may_flip, try_each}
 use Rattle.rules.specs.Lk3.{breadth3, level3, lk3_from, lk3_side, may_go_on, moved3, try_each3}
 use Rattle.rules.specs.Plan.{Plan, alpha_of, leg_of, near_of}
@@ -187,7 +187,7 @@ module _ (p : Plan) (t : Track) (pm : Perm t.round) (alpha : GoodList (length t.
       let f = first_closing (leg_of p) fwd t1 t2 s.track tried in
       let c : Steps s.track 2 (touching s.stops f) = steps_touching s.stops f (subst (λ n. Below n s.stops) (sym e) h.stops) (steps_closing (leg_of p) fwd t1 t2 s.track pm' (omega arith) (omega arith) tried stops) in
       let on = keep (may_go_on p s t2) tried in
-      let most = (if eqb levels 0 then [] else best (breadth3 (49 - levels)) [] on) in
+      let most = (when eqb levels 0 then [] else best (breadth3 (49 - levels)) [] on) in
       let goes : All (Stops (length t.round)) on = all_map {P = λ x. Stops (length r) x × (may_go_on p s t2 x ≡ true)} _ (λ x q. subst (λ n. Stops n x) e q.0) (all_keep (may_go_on p s t2) tried stops) in
       by_gain (Level s) f.gain {x = try_each3 fwd t1 t2 s (level3 p t1 levels) most} {y = λ k. touching s.stops f}
       (λ q. try_each3_level fwd t2 s (level3 p t1 levels) most h (omega arith) h2 (level3_level levels (k + 2) (omega arith))

@@ -10,7 +10,7 @@ use native.Mathlib.Omega.{arith}
 use lib.ListN.{length, length-set, set}
 use lib.Seq.{ext_get_or, get_or-set_other, get_or-set_same}
 use Rattle.rules.specs.SharedWords.{Tied}
-use Rattle.rules.specs.Lists.{at, if◌then◌else◌, tally}
+use Rattle.rules.specs.Lists.{at, when◌then◌else◌, tally}
 use Rattle.rules.specs.Rewrite.{swap_at}
 use Rattle.rules.specs.Ring.{between, is_round, next, on_way, place, places_of, pred, prev, succ}
 use Rattle.rules.specs.Words.{Place, Round, Stop}
@@ -94,7 +94,7 @@ module _ {r : Round} {places : List Place} (t : Tied r places) where
 
   -- whether a stop lies between two, read off their places
   pub between_tied : (fwd : Bool) (a b c : Stop) → a < length r → b < length r → c < length r
-      → between fwd r a b c ≡ (if fwd then on_way (at places a) (at places b) (at places c) else on_way (at places c) (at places b) (at places a))
+      → between fwd r a b c ≡ (when fwd then on_way (at places a) (at places b) (at places c) else on_way (at places c) (at places b) (at places a))
   unfolding between
   between_tied true a b c ha hb hc = rw (place_tied a ha, place_tied b hb, place_tied c hc)
   between_tied false a b c ha hb hc = rw (place_tied a ha, place_tied b hb, place_tied c hc)

@@ -7,7 +7,7 @@ use native.Mathlib.Omega.{arith}
 use native.Mathlib.Decide.{dec_lt}
 use lib.Dec.{eqb}
 use borrow.Author.Tests.{eq-eqb, ne_eqb}
-use Rattle.rules.specs.Lists.{at, if◌then◌else◌}
+use Rattle.rules.specs.Lists.{at, when◌then◌else◌}
 use Rattle.rules.specs.Sheets.{triangle_at, triangle_leg}
 use Rattle.rules.specs.Words.{Stop, Time}
 

@@ -8,7 +8,7 @@ use native.Mathlib.Omega.{arith}
 use lib.ListN.{get_or-replicate, length, length-replicate, replicate, set, take}
 use lib.Seq.{ext_get_or, get_or-take, length-take-le, take-suc-set}
 use borrow.Author.Tests.{eq-eqb, ne_eqb, not-true}
-use Rattle.rules.specs.Lists.{at, has, if◌then◌else◌, once}
+use Rattle.rules.specs.Lists.{at, has, when◌then◌else◌, once}
 use Rattle.rules.specs.Queue.{flags_of, push, waiting}
 use Rattle.rules.specs.Ring.{next, turn}
 use Rattle.rules.specs.Words.{Place, Stop}
@@ -56,7 +56,7 @@ waiting_take ws head count hh hc =
 
 -- ---- flags
 abbrev bit : Bool → ℕ
-bit b = if b then 1 else 0
+bit b = when b then 1 else 0
 
 abbrev flag : List Stop → Stop → ℕ
 flag q v = bit (has q v)
@@ -67,7 +67,7 @@ unfolding flags_of
 flags_of_length n q = table_length (flag q) n
 
 -- each says whether its stop waits
-pub flags_of_at : (n : ℕ) (q : List Stop) (v : Stop) → v < n → at (flags_of n q) v ≡ (if has q v then 1 else 0)
+pub flags_of_at : (n : ℕ) (q : List Stop) (v : Stop) → v < n → at (flags_of n q) v ≡ (when has q v then 1 else 0)
 unfolding flags_of
 flags_of_at n q v h = table_at (flag q) n v h
 
@@ -98,7 +98,7 @@ flags_of_push n q v h =
 pub flags_of_take : (n : ℕ) (v : Stop) (q : List Stop) → v < n → once (v ∷ q) ≡ true → flags_of n q ≡ set (flags_of n (v ∷ q)) v 0
 unfolding flags_of once has
 flags_of_take n v q h o =
-    table_set (flag (v ∷ q)) (flag q) n v h (λ u ne. ap (λ (b : Bool). bit (if b then true else has q u)) (sym (ne_eqb v u (λ e. ne (sym e)))))
+    table_set (flag (v ∷ q)) (flag q) n v h (λ u ne. ap (λ (b : Bool). bit (when b then true else has q u)) (sym (ne_eqb v u (λ e. ne (sym e)))))
     ∙ ap (λ (b : Bool). set (flags_of n (v ∷ q)) v (bit b)) (not-true (has q v) (and-true (not (has q v)) (once q) o).0)
 
 -- nobody waits: all flags are 0

@@ -1,14 +1,14 @@
 -- The cuts of `or_move`, and what is rotated. Assumes nothing.
 use Rattle.std.specs.Prelude.{ℕ, ◌+◌, ◌-◌, ◌≤◌, ◌<◌, min, max, ◌≡◌, Bool, List, length}
 use Rattle.rules.specs.Words.{Stop, Place, Round}
-use Rattle.rules.specs.Lists.{if◌then◌else◌}
+use Rattle.rules.specs.Lists.{when◌then◌else◌}
 use Rattle.rules.specs.Ring.{place}
 use Rattle.rules.specs.Journal.{Track, Entry, rotation, doing}
 use Rattle.rules.specs.Moves.{exchange, or_move}
 
 -- the cut of a leg x-y that goes
 unfoldable pub cut_of : Bool → Round → Stop → Stop → Place
-cut_of fwd r x y = place r (if fwd then y else x)
+cut_of fwd r x y = place r (when fwd then y else x)
 
 -- three cuts in rising order
 pub record Rising (p q s a b c : Place) : Type 0 where

@@ -10,7 +10,7 @@ use borrow.Author.Tests.{leb-true}
 use lib.Dec.{leb, eqb}
 use lib.ListN.{length, take}
 use Rattle.rules.specs.Words.{Stop, Time}
-use Rattle.rules.specs.Lists.{if◌then◌else◌}
+use Rattle.rules.specs.Lists.{when◌then◌else◌}
 use Rattle.rules.specs.Ring.{places_of, recount}
 use Rattle.rules.specs.Queue.{waiting, flags_of, push_all}
 use Rattle.rules.specs.Journal.{Track, track_of, entries_of, good_journal}
@@ -90,7 +90,7 @@ module _ (l l' : Lent) (c c' : Carried) (told : Bool) (p : CallPassed l c told) 
     (record { track = track_of l.round l.journal c.held; queue = waiting l.queue c.head c.count; time = c.time })) keeps l.journal c.held
     l'.round l'.places l'.queue l'.flags l'.journal c'.held c'.head c'.count c'.time left ended) where
   ran : Ran
-  ran = descend (plan_in l) step (if keeps then kept (room_in l) else committed) budget (state_in l c)
+  ran = descend (plan_in l) step (when keeps then kept (room_in l) else committed) budget (state_in l c)
 
   own : Descended ran keeps l.journal c.held l'.round l'.places l'.queue l'.flags l'.journal c'.held c'.head c'.count c'.time left ended
   unfolding ran plan_in state_in room_in manner_of
@@ -98,7 +98,7 @@ module _ (l l' : Lent) (c c' : Carried) (told : Bool) (p : CallPassed l c told) 
 
   nobody : ran.state.queue ≡ []
   unfolding ran
-  nobody = descend_queue (plan_in l) step (if keeps then kept (room_in l) else committed) budget (state_in l c)
+  nobody = descend_queue (plan_in l) step (when keeps then kept (room_in l) else committed) budget (state_in l c)
 
   entries : entries_of l'.journal c'.held ≡ ran.state.track.journal
   unfolding track_of
@@ -143,11 +143,11 @@ module _ (l l' : Lent) (c c' : Carried) (told : Bool) (p : CallPassed l c told) 
   -- what the code subtracts is there
   pub time_falls : c'.time ≤ c.time
   unfolding ran state_in
-  time_falls = omega (arith, own.time_is, descend_time (plan_in l) step (if keeps then kept (room_in l) else committed) budget (state_in l c))
+  time_falls = omega (arith, own.time_is, descend_time (plan_in l) step (when keeps then kept (room_in l) else committed) budget (state_in l c))
 
   pub units_left : left ≤ budget
   unfolding ran
-  units_left = omega (arith, own.left_is, descend_left (plan_in l) step (if keeps then kept (room_in l) else committed) budget (state_in l c))
+  units_left = omega (arith, own.left_is, descend_left (plan_in l) step (when keeps then kept (room_in l) else committed) budget (state_in l c))
 
 -- ---- the promise
 module _ (l : Lent) (c : Carried) (keeps : Bool) (step budget number : ℕ) (is : number ≡ verdict (call_checks l c (good_step l.ka step))) where

@@ -8,7 +8,7 @@ use borrow.Author.Tests.{eq-eqb}
 use lib.Dec.{eqb}
 use lib.ListN.{length}
 use Rattle.rules.specs.Words.{Stop, Time}
-use Rattle.rules.specs.Lists.{if◌then◌else◌, every}
+use Rattle.rules.specs.Lists.{when◌then◌else◌, every}
 use Rattle.rules.specs.Plan.{leg_of, near_of, alpha_of}
 use Rattle.rules.specs.Memory.{Lent, room_in, plan_in}
 use Rattle.rules.specs.Numbers.{Check, verdict, long, good_lengths, lent_checks}
@@ -62,7 +62,7 @@ lent_is l told more = refl
 long_self : (n : ℕ) (ls : List ℕ) → long n (ls ++ (n ∷ [])) ≡ long n ls
 unfolding long every
 long_self n [] = rw (eq-eqb n n refl, every) refl
-long_self n (x ∷ ls) = ap (λ (b : Bool). if eqb x n then b else false) (long_self n ls)
+long_self n (x ∷ ls) = ap (λ (b : Bool). when eqb x n then b else false) (long_self n ls)
 
 pub lent_self : (n k ka : ℕ) (matrix : List Time) (near alpha : List Stop) (ls : List ℕ) (words : ℕ) (told : Bool)
     → lent_number n k ka matrix near alpha (ls ++ (n ∷ [])) words told ≡ lent_number n k ka matrix near alpha ls words told

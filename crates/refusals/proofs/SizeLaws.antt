@@ -7,7 +7,7 @@ use mathlib.Core.List.{List, [], ◌∷◌}
 use native.Mathlib.Omega.{arith}
 use borrow.Author.Tests.{le-leb, lt-leb, leb-true, eq-eqb, ne_eqb, eqb-true}
 use lib.Dec.{leb, eqb}
-use Rattle.rules.specs.Lists.{if◌then◌else◌, every}
+use Rattle.rules.specs.Lists.{when◌then◌else◌, every}
 use Rattle.rules.specs.Numbers.{◌or◌, verdict, within, good_sizes, long}
 use Rattle.laws.proofs.ChoiceLaws.{and-true, both_true}
 use Rattle.refusals.specs.Refusing.{size_checks, plan_long, length_checks}
@@ -83,12 +83,12 @@ module _ (n k ka cells near alpha : ℕ) where
 
   module _ (lengths : List ℕ) (words : ℕ) where
     -- by the numbers of the two checks
-    pub first_fails : (three four r : ℕ) → three ≡ (if plan_long n k ka cells near alpha && long n lengths then 0 else 3) → four ≡ (if leb 512 (words / 5) then 0 else 4)
-        → r ≡ (if eqb three 0 then four else three) → r ≡ verdict (length_checks n k ka cells near alpha lengths words)
+    pub first_fails : (three four r : ℕ) → three ≡ (when plan_long n k ka cells near alpha && long n lengths then 0 else 3) → four ≡ (when leb 512 (words / 5) then 0 else 4)
+        → r ≡ (when eqb three 0 then four else three) → r ≡ verdict (length_checks n k ka cells near alpha lengths words)
     unfolding verdict length_checks
     first_fails three four r e f g = g ∙ go (plan_long n k ka cells near alpha && long n lengths) (leb 512 (words / 5)) e f
       where
-        go : (a b : Bool) → three ≡ (if a then 0 else 3) → four ≡ (if b then 0 else 4) → (if eqb three 0 then four else three) ≡ (if a then (if b then 0 else 4) else 3)
+        go : (a b : Bool) → three ≡ (when a then 0 else 3) → four ≡ (when b then 0 else 4) → (when eqb three 0 then four else three) ≡ (when a then (when b then 0 else 4) else 3)
         go true b e f = rw e f
         go false b e f = rw e refl
 
@@ -115,7 +115,7 @@ pub last_long : (n x : ℕ) → eqb x n ≡ long n (x ∷ [])
 unfolding long every
 last_long n x = go (eqb x n)
   where
-    go : (b : Bool) → b ≡ (if b then true else false)
+    go : (b : Bool) → b ≡ (when b then true else false)
     go true = refl
     go false = refl
 
@@ -129,11 +129,11 @@ unfolding long every
 long_next n x xs b h e = rw (eq-eqb x n h, every) e
 
 -- 3, by the plan's lengths and the others
-pub both_hold : (a b : Bool) → a ≡ true → b ≡ true → ◌≡◌ {A = ℕ} 0 (if a && b then 0 else 3)
+pub both_hold : (a b : Bool) → a ≡ true → b ≡ true → ◌≡◌ {A = ℕ} 0 (when a && b then 0 else 3)
 both_hold a b e f = rw (e, f) refl
 
-pub second_fails : (a b : Bool) → a ≡ true → b ≡ false → ◌≡◌ {A = ℕ} 3 (if a && b then 0 else 3)
+pub second_fails : (a b : Bool) → a ≡ true → b ≡ false → ◌≡◌ {A = ℕ} 3 (when a && b then 0 else 3)
 second_fails a b e f = rw (e, f) refl
 
-pub plan_fails : (a b : Bool) → a ≡ false → ◌≡◌ {A = ℕ} 3 (if a && b then 0 else 3)
+pub plan_fails : (a b : Bool) → a ≡ false → ◌≡◌ {A = ℕ} 3 (when a && b then 0 else 3)
 plan_fails a b e = rw e refl

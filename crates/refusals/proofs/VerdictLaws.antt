@@ -8,7 +8,7 @@ use native.Mathlib.Omega.{arith}
 use native.Mathlib.Decide.{ℕ_discrete}
 use borrow.Author.Tests.{leb-true}
 use lib.Dec.{leb}
-use Rattle.rules.specs.Lists.{if◌then◌else◌, every}
+use Rattle.rules.specs.Lists.{when◌then◌else◌, every}
 use Rattle.rules.specs.Numbers.{Check, ◌or◌, verdict}
 use Rattle.laws.proofs.ChoiceLaws.{both_true}
 
@@ -22,8 +22,8 @@ unfolding verdict
 verdict_first [] ys h = absurd (h refl)
 verdict_first (c ∷ cs) ys h = go c.ok h (λ g. verdict_first cs ys g)
   where
-    go : (b : Bool) → (if b then verdict cs else c.number) ≢ 0 → (verdict cs ≢ 0 → verdict (cs ++ ys) ≡ verdict cs)
-        → (if b then verdict (cs ++ ys) else c.number) ≡ (if b then verdict cs else c.number)
+    go : (b : Bool) → (when b then verdict cs else c.number) ≢ 0 → (verdict cs ≢ 0 → verdict (cs ++ ys) ≡ verdict cs)
+        → (when b then verdict (cs ++ ys) else c.number) ≡ (when b then verdict cs else c.number)
     go true h f = f h
     go false h f = refl
 
@@ -35,8 +35,8 @@ verdict_then (c ∷ cs) ys p e =
     let g = both_true (leb 1 c.number) (every (λ c. leb 1 c.number) cs) p in
     go c.ok (leb-true 1 c.number g.0) e (λ f. verdict_then cs ys g.1 f)
   where
-    go : (b : Bool) → 1 ≤ c.number → (if b then verdict cs else c.number) ≡ 0 → (verdict cs ≡ 0 → verdict (cs ++ ys) ≡ verdict ys)
-        → (if b then verdict (cs ++ ys) else c.number) ≡ verdict ys
+    go : (b : Bool) → 1 ≤ c.number → (when b then verdict cs else c.number) ≡ 0 → (verdict cs ≡ 0 → verdict (cs ++ ys) ≡ verdict ys)
+        → (when b then verdict (cs ++ ys) else c.number) ≡ verdict ys
     go true q e f = f e
     go false q e f = absurd (omega arith)
 
@@ -48,8 +48,8 @@ verdict_none (c ∷ cs) p e =
     let g = both_true (leb 1 c.number) (every (λ c. leb 1 c.number) cs) p in
     go c.ok (leb-true 1 c.number g.0) e (λ f. verdict_none cs g.1 f)
   where
-    go : (b : Bool) → 1 ≤ c.number → (if b then verdict cs else c.number) ≡ 0 → (verdict cs ≡ 0 → every (λ c. c.ok) cs ≡ true)
-        → (if b then every (λ c. c.ok) cs else false) ≡ true
+    go : (b : Bool) → 1 ≤ c.number → (when b then verdict cs else c.number) ≡ 0 → (verdict cs ≡ 0 → every (λ c. c.ok) cs ≡ true)
+        → (when b then every (λ c. c.ok) cs else false) ≡ true
     go true q e f = f e
     go false q e f = absurd (omega arith)
 
@@ -65,11 +65,11 @@ verdict_both xs ys p e = go (ℕ_discrete (verdict xs) 0)
 module _ (xs : List Check) (p : Numbered xs) (e : verdict xs ≡ 0) (b : Bool) (k : ℕ) where
   pub last_passes : b ≡ true → 0 ≡ verdict (xs ++ ((b or k) ∷ []))
   unfolding verdict
-  last_passes h = sym (verdict_then xs ((b or k) ∷ []) p e ∙ ap (λ (t : Bool). if t then 0 else k) h)
+  last_passes h = sym (verdict_then xs ((b or k) ∷ []) p e ∙ ap (λ (t : Bool). when t then 0 else k) h)
 
   pub last_fails : b ≡ false → k ≡ verdict (xs ++ ((b or k) ∷ []))
   unfolding verdict
-  last_fails h = sym (verdict_then xs ((b or k) ∷ []) p e ∙ ap (λ (t : Bool). if t then 0 else k) h)
+  last_fails h = sym (verdict_then xs ((b or k) ∷ []) p e ∙ ap (λ (t : Bool). when t then 0 else k) h)
 
 -- what it says of itself
 pub alone_passes : (b : Bool) (k : ℕ) → 1 ≤ k → verdict ((b or k) ∷ []) ≡ 0 → b ≡ true

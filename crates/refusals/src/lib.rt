@@ -3,7 +3,7 @@
 #![tactic(auto)]
 
 ghost use Rattle.std.specs.Prelude.{◌≡◌, Bool, ◌&&◌, List, [], ◌∷◌, ℕ, ◌*◌, ◌/◌, ◌<◌, ◌≤◌, leb, eqb, length};
-ghost use Rattle.rules.specs.Lists.{if◌then◌else◌};
+ghost use Rattle.rules.specs.Lists.{when◌then◌else◌};
 ghost use Rattle.rules.specs.Plan.{leg_in, list_in};
 ghost use Rattle.rules.specs.Numbers.{verdict, good_step, good_kick, long, symmetric as symmetric_in, good_list, call_checks, kick_number as kick_number_of, load_number as load_number_of};
 ghost use Rattle.rules.specs.SharedWords.{Square};
@@ -175,7 +175,7 @@ fn long_number(
     requires n_bound { n ≤ 4096 }
     requires k_bound { k ≤ 20 }
     requires ka_bound { ka ≤ 5 }
-    ensures { result ≡ (if plan_long_of n k ka cells near alpha && long n (round ∷ places ∷ queue ∷ flags ∷ scratch ∷ more ∷ []) then 0 else 3) }
+    ensures { result ≡ (when plan_long_of n k ka cells near alpha && long n (round ∷ places ∷ queue ∷ flags ∷ scratch ∷ more ∷ []) then 0 else 3) }
 {
     if plan_long(n, k, ka, cells, near, alpha) {
         if all_long(n, round, places, queue, flags, scratch, more) {
@@ -187,14 +187,14 @@ fn long_number(
 
 // 4 where the journal's words are too few.
 fn room_number(words: usize) -> u32
-    ensures { result ≡ (if leb 512 (words / 5) then 0 else 4) }
+    ensures { result ≡ (when leb 512 (words / 5) then 0 else 4) }
 {
     if words / 5 < 512 { 4 } else { 0 }
 }
 
 // Of the numbers of two checks, that of the first that fails.
 fn first_number(one: u32, next: u32) -> u32
-    ensures { result ≡ (if eqb one 0 then next else one) }
+    ensures { result ≡ (when eqb one 0 then next else one) }
 {
     if one != 0 { one } else { next }
 }

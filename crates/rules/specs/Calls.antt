@@ -2,7 +2,7 @@
 -- gives 0 in every result but the number. Assumes nothing.
 use Rattle.std.specs.Prelude.{ℕ, zero, suc, ◌+◌, ◌-◌, ◌*◌, ◌/◌, Bool, true, false, List, [], ◌∷◌, ◌++◌, length, drop}
 use Rattle.rules.specs.Words.{Place, Time, Round}
-use Rattle.rules.specs.Lists.{if◌then◌else◌}
+use Rattle.rules.specs.Lists.{when◌then◌else◌}
 use Rattle.rules.specs.Ring.{recount}
 use Rattle.rules.specs.Plan.{leg_in, leg_of}
 use Rattle.rules.specs.State.{State, commit, load, undo}
@@ -59,7 +59,7 @@ kick_done l c kind draw =
 -- `keeps` tells a kept descent from a committed one
 unfoldable pub descend_done : Lent → Carried → Bool → ℕ → ℕ → Done
 descend_done l c keeps step budget =
-    let g = descend (plan_in l) step (if keeps then kept (room_in l) else committed) budget (state_in l c) in
+    let g = descend (plan_in l) step (when keeps then kept (room_in l) else committed) budget (state_in l c) in
     record {
       state = g.state;
       head = 0;

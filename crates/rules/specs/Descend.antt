@@ -1,7 +1,7 @@
 -- 01, "The port", 10: `descend`, kept and committed. Assumes nothing.
 use Rattle.std.specs.Prelude.{ℕ, zero, suc, ◌+◌, ◌-◌, Bool, true, false, List, [], ◌∷◌, ltb, length}
 use Rattle.rules.specs.Words.{Stop, Time}
-use Rattle.rules.specs.Lists.{if◌then◌else◌}
+use Rattle.rules.specs.Lists.{when◌then◌else◌}
 use Rattle.rules.specs.Queue.{push_all}
 use Rattle.rules.specs.Journal.{Track, cleared}
 use Rattle.rules.specs.Plan.{Plan}
@@ -15,7 +15,7 @@ use Rattle.rules.specs.State.{State}
 unfoldable pub step_from : Plan → ℕ → Stop → Track → Found
 step_from p zero v t = or_else (lk_from p v t) (improve_both p v)
 step_from p (suc zero) v t = or_else (lk3_from p v t) (improve_both p v)
-step_from p (suc (suc kind)) v t = if ltb (length t.round) 5 then improve_both p v t else lk3_from p v t
+step_from p (suc (suc kind)) v t = when ltb (length t.round) 5 then improve_both p v t else lk3_from p v t
 
 -- a kept descent has a journal of so many entries
 pub data Manner : Type 0 where

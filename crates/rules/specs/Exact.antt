@@ -1,7 +1,7 @@
 -- 01, "The port", 13: the exact round. Unequal times allowed. Assumes nothing.
 use Rattle.std.specs.Prelude.{ℕ, zero, suc, ◌-◌, ◌≤◌, ◌<◌, ◌≡◌, Bool, true, false, List, [], ◌∷◌, map, ltb}
 use Rattle.rules.specs.Words.{Stop, Time, Round, Legs}
-use Rattle.rules.specs.Lists.{if◌then◌else◌, at, rising, each}
+use Rattle.rules.specs.Lists.{when◌then◌else◌, at, rising, each}
 use Rattle.rules.specs.Ring.{is_round, recount}
 use Rattle.rules.specs.Start.{without}
 
@@ -35,7 +35,7 @@ rounds n = map (λ o. 0 ∷ o) (orders (n - 1) (rising (n - 1) 1))
 -- of `so` and the rounds of a list, the first that none is cheaper than
 unfoldable pub cheapest_of : Legs → Round → List Round → Round
 cheapest_of d so [] = so
-cheapest_of d so (r ∷ rs) = cheapest_of d (if ltb (recount d r) (recount d so) then r else so) rs
+cheapest_of d so (r ∷ rs) = cheapest_of d (when ltb (recount d r) (recount d so) then r else so) rs
 
 unfoldable pub exact_round : Legs → ℕ → Round
 exact_round d n = cheapest_of d (rising n 0) (rounds n)

@@ -2,7 +2,7 @@
 -- compared first. Assumes nothing.
 use Rattle.std.specs.Prelude.{ℕ, zero, suc, ◌+◌, ◌-◌, Bool, true, false, not, ◌||◌, List, [], ◌∷◌, ◌++◌, ltb, eqb}
 use Rattle.rules.specs.Words.{Stop, Time, Round, Legs}
-use Rattle.rules.specs.Lists.{if◌then◌else◌, each, keep, keep_while}
+use Rattle.rules.specs.Lists.{when◌then◌else◌, each, keep, keep_while}
 use Rattle.rules.specs.Ring.{succ, pred, ahead, behind, beside, between}
 use Rattle.rules.specs.Journal.{Track}
 use Rattle.rules.specs.Moves.{Case, two, flips, segment, inner, seq3}
@@ -50,9 +50,9 @@ module _ (add cut : Legs) (list : Stop → List Stop) (scan : Scan) (fwd : Bool)
   sixths true t3 t4 t5 g3 =
       let after = ahead fwd r t5 in
       let before = behind fwd r t5 in
-      if between fwd r t2 t5 t3 then
+      when between fwd r t2 t5 t3 then
       record { case = segment; t3 = t3; t4 = t4; t5 = t5; t6 = after; partial = g3 + cut t5 after } ∷
-      (if eqb t5 t2 then [] else (record { case = inner; t3 = t3; t4 = t4; t5 = t5; t6 = before; partial = g3 + cut t5 before } ∷ []))
+      (when eqb t5 t2 then [] else (record { case = inner; t3 = t3; t4 = t4; t5 = t5; t6 = before; partial = g3 + cut t5 before } ∷ []))
       else []
 
   -- one side of t3, "t4 before, then after t3"; "t5 from t4's list"; g1 is the gain before the leg t3-t4 goes

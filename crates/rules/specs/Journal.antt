@@ -1,7 +1,7 @@
 -- 01, "The port", 5, and "Sizes and numbers", the journal: what is journalled, and how it is taken back. Newest entry first. Assumes nothing.
 use Rattle.std.specs.Prelude.{ℕ, zero, suc, ◌+◌, ◌-◌, ◌*◌, Bool, true, false, ◌&&◌, List, [], ◌∷◌, leb, ltb, eqb, length, take, drop}
 use Rattle.rules.specs.Words.{Place, Round}
-use Rattle.rules.specs.Lists.{if◌then◌else◌, at, rising, every}
+use Rattle.rules.specs.Lists.{when◌then◌else◌, at, rising, every}
 use Rattle.rules.specs.Rewrite.{reverse_at, rotate_at, swap_at, stretch, Stretch}
 
 -- "start and length, or start and three lengths, or two places"
@@ -20,8 +20,8 @@ words_of (swap i j) = 2 ∷ i ∷ j ∷ 0 ∷ 0 ∷ []
 unfoldable pub entry_at : List ℕ → ℕ → Entry
 entry_at ws i =
     let w = drop (5 * i) ws in
-    if eqb (at w 0) 0 then reversal (at w 1) (at w 2) else
-    if eqb (at w 0) 1 then rotation (at w 1) (at w 2) (at w 3) (at w 4) else
+    when eqb (at w 0) 0 then reversal (at w 1) (at w 2) else
+    when eqb (at w 0) 1 then rotation (at w 1) (at w 2) (at w 3) (at w 4) else
     swap (at w 1) (at w 2)
 
 -- the entries held, newest first
@@ -83,4 +83,4 @@ rollback mark t =
 unfoldable pub reversing : Place → Place → Track → Track
 reversing s e t =
     let w = stretch (length t.round) s e in
-    if ltb w.len 2 then t else doing (reversal w.start w.len) t
+    when ltb w.len 2 then t else doing (reversal w.start w.len) t

@@ -2,7 +2,7 @@
 -- apart. Assumes nothing.
 use Rattle.std.specs.Prelude.{ℕ, zero, suc, ◌+◌, ◌-◌, ◌/◌, ◌%◌, min, Bool, true, false, List, [], ◌∷◌, ◌++◌, ltb, eqb, length, take, drop}
 use Rattle.rules.specs.Words.{Stop, Place, Time, Legs}
-use Rattle.rules.specs.Lists.{if◌then◌else◌, at}
+use Rattle.rules.specs.Lists.{when◌then◌else◌, at}
 use Rattle.rules.specs.Draws.{Span, ◌to◌, Drawn, draws}
 use Rattle.rules.specs.Ring.{prev, turn, path_cost, recount}
 use Rattle.rules.specs.Queue.{push_all}
@@ -15,7 +15,7 @@ longest n = min 200 ((n - 1) / 3)
 
 -- "under 2 it becomes a global kick": the kind that is carried out
 unfoldable pub kind_at : ℕ → ℕ → ℕ
-kind_at n kind = if ltb (longest n) 2 then 2 else kind
+kind_at n kind = when ltb (longest n) 2 then 2 else kind
 
 -- ---- what is drawn
 -- "A shuffle draws from 0 to k, k falling from length-1 to 1"
@@ -29,8 +29,8 @@ shuffle_spans (suc (suc k)) = (0 to suc k) ∷ shuffle_spans (suc k)
 unfoldable pub global_spans : ℕ → List Span
 global_spans n =
     let length4 = 1 to n / 4 in
-    if ltb n 8 then shuffle_spans n else
-    (length4 ∷ length4 ∷ length4 ∷ (if ltb n 32 then [] else ((0 to (n - 30)) ∷ shuffle_spans 30)))
+    when ltb n 8 then shuffle_spans n else
+    (length4 ∷ length4 ∷ length4 ∷ (when ltb n 32 then [] else ((0 to (n - 30)) ∷ shuffle_spans 30)))
 
 -- "Draw order: a, b, c, start. Swap kick: no b"
 unfoldable pub spans : ℕ → ℕ → List Span
@@ -39,7 +39,7 @@ spans n kind =
     let start = 0 to (n - 1) in
     elim (kind_at n kind) [
       | zero ↦ segment ∷ segment ∷ segment ∷ start ∷ []
-      | suc k ↦ if eqb k 0 then (segment ∷ segment ∷ start ∷ []) else global_spans n
+      | suc k ↦ when eqb k 0 then (segment ∷ segment ∷ start ∷ []) else global_spans n
     ]
 
 -- ---- what is done with it: the track, the stops that the source queues, in its order, the legs that come and those that go
@@ -54,7 +54,7 @@ unfoldable pub shuffled : Place → List ℕ → Track → Track
 shuffled start [] t = t
 shuffled start (v ∷ vs) t =
     let k = length (v ∷ vs) in
-    shuffled start vs (if eqb v k then t else doing (swap (start + v) (start + k)) t)
+    shuffled start vs (when eqb v k then t else doing (swap (start + v) (start + k)) t)
 
 -- a segment kick: p X Y Z q becomes p Z Y X q; without Y p X Z q becomes p Z X q
 unfoldable pub segment_kick : Legs → ℕ → ℕ → ℕ → Place → Track → Kicked
@@ -72,9 +72,9 @@ segment_kick d a b c start t =
     let no_y = eqb b 0 in
     record {
       track = doing (rotation start a b c) t;
-      touched = p ∷ x0 ∷ x1 ∷ z0 ∷ z1 ∷ q ∷ (if no_y then [] else (y0 ∷ y1 ∷ []));
-      added = d p z0 + (if no_y then d z1 x0 else d z1 y0 + d y1 x0) + d x1 q;
-      removed = d p x0 + (if no_y then d x1 z0 else d x1 y0 + d y1 z0) + d z1 q;
+      touched = p ∷ x0 ∷ x1 ∷ z0 ∷ z1 ∷ q ∷ (when no_y then [] else (y0 ∷ y1 ∷ []));
+      added = d p z0 + (when no_y then d z1 x0 else d z1 y0 + d y1 x0) + d x1 q;
+      removed = d p x0 + (when no_y then d x1 z0 else d x1 y0 + d y1 z0) + d z1 q;
     }
 
 -- all places shuffled: every leg is counted anew
@@ -115,8 +115,8 @@ unfoldable pub global_kick : Legs → List ℕ → Track → Kicked
 global_kick d vs t =
     let n = length t.round in
     let bridge = bridge_kick d (at vs 0) (at vs 1) (at vs 2) t in
-    if ltb n 8 then shuffle_kick d vs t else
-    if ltb n 32 then bridge else
+    when ltb n 8 then shuffle_kick d vs t else
+    when ltb n 32 then bridge else
     and_then bridge (window_kick d (at vs 3) (drop 4 vs))
 
 -- "Kick kind: 0 SegmentDoubleBridge, 1 SegmentSwap, 2 Global", with what it drew
@@ -124,7 +124,7 @@ unfoldable pub kicked : Legs → ℕ → List ℕ → Track → Kicked
 kicked d kind vs t =
     elim (kind_at (length t.round) kind) [
       | zero ↦ segment_kick d (at vs 0) (at vs 1) (at vs 2) (at vs 3) t
-      | suc k ↦ if eqb k 0 then segment_kick d (at vs 0) 0 (at vs 1) (at vs 2) t else global_kick d vs t
+      | suc k ↦ when eqb k 0 then segment_kick d (at vs 0) 0 (at vs 1) (at vs 2) t else global_kick d vs t
     ]
 
 -- the state with a kick made: the time with the legs that come, without those that go

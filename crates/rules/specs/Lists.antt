@@ -1,9 +1,9 @@
 -- Choices and lists that the rules are written with. Assumes nothing.
 use Rattle.std.specs.Prelude.{ℕ, zero, suc, ◌+◌, Bool, true, false, not, ◌&&◌, List, [], ◌∷◌, ◌++◌, eqb, get_or}
 
-infix 20 if◌then◌else◌
-abbrev pub if◌then◌else◌ : {A : Type 0} → Bool → A → A → A
-if c then a else b = elim c [ true ↦ a | false ↦ b ]
+infix 20 when◌then◌else◌
+abbrev pub when◌then◌else◌ : {A : Type 0} → Bool → A → A → A
+when c then a else b = elim c [ true ↦ a | false ↦ b ]
 
 -- element i of a list of numbers; 0 beyond its end
 abbrev pub at : List ℕ → ℕ → ℕ
@@ -26,7 +26,7 @@ once (x ∷ xs) = not (has xs x) && once xs
 
 -- how often v is in the list
 unfoldable pub one : ℕ → ℕ → ℕ
-one x v = if eqb x v then 1 else 0
+one x v = when eqb x v then 1 else 0
 
 unfoldable pub tally : List ℕ → ℕ → ℕ
 tally [] v = 0

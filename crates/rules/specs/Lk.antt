@@ -1,7 +1,7 @@
 -- 01, "The port", 8: `lk_from`, `lk_deepen`. Assumes nothing.
 use Rattle.std.specs.Prelude.{ℕ, zero, suc, ◌+◌, ◌-◌, Bool, true, false, not, ◌||◌, List, [], ◌∷◌, map, ltb, eqb, length, get_or}
 use Rattle.rules.specs.Words.{Stop, Time}
-use Rattle.rules.specs.Lists.{if◌then◌else◌, keep, keep_while}
+use Rattle.rules.specs.Lists.{when◌then◌else◌, keep, keep_while}
 use Rattle.rules.specs.Ring.{Leg, leg, succ, ahead, behind}
 use Rattle.rules.specs.Journal.{Track}
 use Rattle.rules.specs.Moves.{two, flip}
@@ -35,7 +35,7 @@ pub record Best : Type 0 where
   pub step : Step
 
 unfoldable pub better : Best → Step → Time → Time → Best
-better b s partial closing = if ltb (closing + b.gain) partial then record { gain = partial - closing; step = s } else b
+better b s partial closing = when ltb (closing + b.gain) partial then record { gain = partial - closing; step = s } else b
 
 -- the step gone on with by a flip
 unfoldable pub flipped : Stop → Stop → Step → Trial → Step
@@ -66,4 +66,4 @@ lk_side p t1 fwd t =
 
 -- `lk_from`: "0 below 5 stops"; t2 after t1, then before it
 unfoldable pub lk_from : Plan → Stop → Track → Found
-lk_from p t1 t = if ltb (length t.round) 5 then nothing t else or_else (lk_side p t1 true t) (lk_side p t1 false)
+lk_from p t1 t = when ltb (length t.round) 5 then nothing t else or_else (lk_side p t1 true t) (lk_side p t1 false)

@@ -1,7 +1,7 @@
 -- 01, "The port", 9: `lk3_from`, `lk3_level`, `lk3_level_dir`. Assumes nothing.
 use Rattle.std.specs.Prelude.{ℕ, zero, suc, ◌+◌, ◌-◌, Bool, true, false, not, ◌&&◌, ◌||◌, List, [], ◌∷◌, ltb, eqb, length, get_or}
 use Rattle.rules.specs.Words.{Stop, Time}
-use Rattle.rules.specs.Lists.{if◌then◌else◌, at, keep}
+use Rattle.rules.specs.Lists.{when◌then◌else◌, at, keep}
 use Rattle.rules.specs.Ring.{Leg, leg, succ, ahead}
 use Rattle.rules.specs.Journal.{Track}
 use Rattle.rules.specs.Moves.{two, flips, segment, inner, seq3}
@@ -47,7 +47,7 @@ level3 p t1 (suc levels) s t2 g =
     let tried = trials (leg_of p) (leg_of p) (alpha_of p) keep fwd s.track.round t1 t2 g in
     let f = first_closing (leg_of p) fwd t1 t2 s.track tried in
     elim f.gain [
-      | zero ↦ try_each3 fwd t1 t2 s (level3 p t1 levels) (if eqb levels 0 then [] else best (breadth3 (49 - levels)) [] (keep (may_go_on p s t2) tried))
+      | zero ↦ try_each3 fwd t1 t2 s (level3 p t1 levels) (when eqb levels 0 then [] else best (breadth3 (49 - levels)) [] (keep (may_go_on p s t2) tried))
       | suc k ↦ touching s.stops f
     ]
 
@@ -59,4 +59,4 @@ lk3_side p t1 fwd t =
 
 -- `lk3_from`: 0 below 5 stops; t2 after t1, then before it
 unfoldable pub lk3_from : Plan → Stop → Track → Found
-lk3_from p t1 t = if ltb (length t.round) 5 then nothing t else or_else (lk3_side p t1 true t) (lk3_side p t1 false)
+lk3_from p t1 t = when ltb (length t.round) 5 then nothing t else or_else (lk3_side p t1 true t) (lk3_side p t1 false)

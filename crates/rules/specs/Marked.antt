@@ -1,7 +1,7 @@
 -- 01, "Marked cases": proved together, as one statement over one list. Assumes nothing.
 use Rattle.std.specs.Prelude.{ℕ, zero, suc, ◌+◌, ◌≡◌, refl, List, [], ◌∷◌, map, eqb, replicate}
 use Rattle.rules.specs.Words.{Round, Place, Legs, Stop}
-use Rattle.rules.specs.Lists.{if◌then◌else◌}
+use Rattle.rules.specs.Lists.{when◌then◌else◌}
 use Rattle.rules.specs.Draws.{moved}
 use Rattle.rules.specs.Rewrite.{rotate_at}
 use Rattle.rules.specs.Journal.{Track, reversing}

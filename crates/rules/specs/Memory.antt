@@ -1,7 +1,7 @@
 -- 01, "Sizes and numbers": the memory that a call is lent, what it stands for, and what it holds once a state is left in it. Assumes nothing.
 use Rattle.std.specs.Prelude.{ℕ, zero, suc, ◌-◌, ◌*◌, ◌/◌, ◌≡◌, Bool, true, false, List, [], ◌++◌, reverse, ltb, length, take}
 use Rattle.rules.specs.Words.{Stop, Place, Time, Round}
-use Rattle.rules.specs.Lists.{if◌then◌else◌, each}
+use Rattle.rules.specs.Lists.{when◌then◌else◌, each}
 use Rattle.rules.specs.Ring.{places_of}
 use Rattle.rules.specs.Queue.{waiting, flags_of}
 use Rattle.rules.specs.Journal.{Track, words_of, track_of}
@@ -45,7 +45,7 @@ state_in l c = record { track = track_of l.round l.journal c.held; queue = waiti
 unfoldable pub words_left : Lent → Carried → State → List ℕ
 words_left l c s =
     let entries = s.track.journal in
-    if ltb (length entries) c.held then [] else take (5 * c.held) l.journal ++ each words_of (reverse (take (length entries - c.held) entries))
+    when ltb (length entries) c.held then [] else take (5 * c.held) l.journal ++ each words_of (reverse (take (length entries - c.held) entries))
 
 -- memory l with c, once the state s is left in it with its queue's head at `head`: the scratch words, the queue words that nobody waits in
 -- and the journal words beyond those held are not said (docs/EXCEPTIONS.md)

@@ -1,7 +1,7 @@
 -- 01, "The port", 6: `flip`, `or_move`, `apply_seq3`. Assumes nothing.
 use Rattle.std.specs.Prelude.{ℕ, zero, suc, ◌+◌, ◌-◌, min, max, Bool, true, false, ◌&&◌, List, [], ◌∷◌, leb, eqb, length}
 use Rattle.rules.specs.Words.{Stop, Place}
-use Rattle.rules.specs.Lists.{if◌then◌else◌}
+use Rattle.rules.specs.Lists.{when◌then◌else◌}
 use Rattle.rules.specs.Ring.{place, succ, pred}
 use Rattle.rules.specs.Journal.{Track, Entry, rotation, doing, reversing}
 
@@ -9,7 +9,7 @@ use Rattle.rules.specs.Journal.{Track, Entry, rotation, doing, reversing}
 unfoldable pub flip : Stop → Stop → Stop → Track → Track
 flip t1 t2 t3 t =
     let r = t.round in
-    if eqb (succ r t1) t2 then reversing (place r t2) (place r (pred r t3)) t else reversing (place r t1) (place r t3) t
+    when eqb (succ r t1) t2 then reversing (place r t2) (place r (pred r t3)) t else reversing (place r t1) (place r t3) t
 
 -- "`or_move` keeps the longest path in place, with the source's ties": three cuts in rising order leave three paths, and the other two
 -- change places; of equals the path over the ring's end stays, then the first
@@ -18,16 +18,16 @@ exchange c0 c1 c2 t =
     let a = c1 - c0 in
     let b = c2 - c1 in
     let c = length t.round - (c2 - c0) in
-    if leb a c && leb b c then doing (rotation c0 a 0 b) t else
-    if leb b a then doing (rotation c1 b 0 c) t else
+    when leb a c && leb b c then doing (rotation c0 a 0 b) t else
+    when leb b a then doing (rotation c1 b 0 c) t else
     doing (rotation c2 c 0 a) t
 
 -- `or_move`: the cut of a leg x-y that goes is the place of its later stop in the ring's own direction
 unfoldable pub or_move : Bool → Stop → Stop → Stop → Stop → Stop → Stop → Track → Track
 or_move fwd x1 y1 x2 y2 x3 y3 t =
-    let p = place t.round (if fwd then y1 else x1) in
-    let q = place t.round (if fwd then y2 else x2) in
-    let s = place t.round (if fwd then y3 else x3) in
+    let p = place t.round (when fwd then y1 else x1) in
+    let q = place t.round (when fwd then y2 else x2) in
+    let s = place t.round (when fwd then y3 else x3) in
     let lo = min p (min q s) in
     let hi = max p (max q s) in
     exchange lo (p + q + s - lo - hi) hi t

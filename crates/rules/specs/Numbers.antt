@@ -1,7 +1,7 @@
 -- 01, "Answer numbers": what is checked of lent memory, in which order, and the number that is given. Assumes nothing.
 use Rattle.std.specs.Prelude.{ℕ, zero, suc, ◌+◌, ◌-◌, ◌*◌, ◌^◌, Bool, true, false, not, ◌&&◌, ◌||◌, List, [], ◌∷◌, ◌++◌, leb, ltb, eqb, length}
 use Rattle.rules.specs.Words.{Stop, Place, Round, Legs}
-use Rattle.rules.specs.Lists.{if◌then◌else◌, rising, once, same, every}
+use Rattle.rules.specs.Lists.{when◌then◌else◌, rising, once, same, every}
 use Rattle.rules.specs.Ring.{places_of, is_round, recount}
 use Rattle.rules.specs.Queue.{waiting, flags_of}
 use Rattle.rules.specs.Journal.{good_journal}

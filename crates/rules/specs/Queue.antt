@@ -1,12 +1,12 @@
 -- 01, "The port", 4: the stops that wait. The first of the list is taken next. Assumes nothing.
 use Rattle.std.specs.Prelude.{ℕ, zero, suc, Bool, true, false, List, [], ◌∷◌, ◌++◌, map, take}
 use Rattle.rules.specs.Words.{Stop}
-use Rattle.rules.specs.Lists.{if◌then◌else◌, has, rising}
+use Rattle.rules.specs.Lists.{when◌then◌else◌, has, rising}
 use Rattle.rules.specs.Ring.{turn}
 
 -- "a stop waits once, in order of arrival"
 unfoldable pub push : List Stop → Stop → List Stop
-push q v = if has q v then q else (q ++ (v ∷ []))
+push q v = when has q v then q else (q ++ (v ∷ []))
 
 -- `push_all`
 unfoldable pub push_all : List Stop → List Stop → List Stop
@@ -19,4 +19,4 @@ waiting ws head count = take count (turn head ws)
 
 -- the n flags that agree with a queue: 1 for each stop that waits, 0 for the others
 unfoldable pub flags_of : ℕ → List Stop → List ℕ
-flags_of n q = map (λ v. if has q v then 1 else 0) (rising n 0)
+flags_of n q = map (λ v. when has q v then 1 else 0) (rising n 0)

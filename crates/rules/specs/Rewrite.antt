@@ -2,7 +2,7 @@
 -- read from a place on. Assumes nothing.
 use Rattle.std.specs.Prelude.{ℕ, zero, suc, ◌+◌, ◌-◌, ◌*◌, List, [], ◌∷◌, ◌++◌, reverse, leb, ltb, length, take, drop, set}
 use Rattle.rules.specs.Words.{Stop, Place, Round}
-use Rattle.rules.specs.Lists.{if◌then◌else◌, at}
+use Rattle.rules.specs.Lists.{when◌then◌else◌, at}
 use Rattle.rules.specs.Ring.{next, turn}
 
 -- f done to the ring as it is read from place s on
@@ -36,10 +36,10 @@ pub record Stretch : Type 0 where
 
 -- "From start to end, round the ring"
 unfoldable pub len_of : ℕ → Place → Place → ℕ
-len_of n s e = if leb s e then e - s + 1 else e + n - s + 1
+len_of n s e = when leb s e then e - s + 1 else e + n - s + 1
 
 -- "If twice the length exceeds n, the complement is reversed instead"
 unfoldable pub stretch : ℕ → Place → Place → Stretch
 stretch n s e =
     let len = len_of n s e in
-    if ltb n (2 * len) then record { start = next n e; len = n - len } else record { start = s; len = len }
+    when ltb n (2 * len) then record { start = next n e; len = n - len } else record { start = s; len = len }

@@ -1,16 +1,16 @@
 -- 01, "The port", 1: the ring of n places, the round on it, its legs and its time. Assumes nothing.
 use Rattle.std.specs.Prelude.{ℕ, zero, suc, ◌+◌, ◌-◌, Bool, true, false, ◌&&◌, ◌||◌, List, [], ◌∷◌, ◌++◌, map, leb, ltb, eqb, length, take, drop}
 use Rattle.rules.specs.Words.{Stop, Place, Time, Round, Legs}
-use Rattle.rules.specs.Lists.{if◌then◌else◌, at, rising, tally, every}
+use Rattle.rules.specs.Lists.{when◌then◌else◌, at, rising, tally, every}
 
 -- ---- places
 -- `next`: the place after i on a ring of n
 unfoldable pub next : ℕ → Place → Place
-next n i = if eqb (i + 1) n then 0 else i + 1
+next n i = when eqb (i + 1) n then 0 else i + 1
 
 -- `prev`: the place before it
 unfoldable pub prev : ℕ → Place → Place
-prev n i = if eqb i 0 then n - 1 else i - 1
+prev n i = when eqb i 0 then n - 1 else i - 1
 
 -- the place of a stop; the length where the round doesn't have it
 unfoldable pub place : Round → Stop → Place
@@ -39,18 +39,18 @@ pred r v = at r (prev (length r) (place r v))
 
 -- `next_dir`, `prev_dir`: the same in a direction, true for the ring's own
 unfoldable pub ahead : Bool → Round → Stop → Stop
-ahead fwd r v = if fwd then succ r v else pred r v
+ahead fwd r v = when fwd then succ r v else pred r v
 
 unfoldable pub behind : Bool → Round → Stop → Stop
-behind fwd r v = if fwd then pred r v else succ r v
+behind fwd r v = when fwd then pred r v else succ r v
 
 -- one or the other
 unfoldable pub beside : Bool → Round → Bool → Stop → Stop
-beside fwd r after v = if after then ahead fwd r v else behind fwd r v
+beside fwd r after v = when after then ahead fwd r v else behind fwd r v
 
 -- place b lies on the way forward from a to c, ends included
 unfoldable pub on_way : Place → Place → Place → Bool
-on_way a b c = if leb a c then leb a b && leb b c else (leb a b || leb b c)
+on_way a b c = when leb a c then leb a b && leb b c else (leb a b || leb b c)
 
 -- `between_dir`: stop b lies on the way from stop a to stop c in a direction
 unfoldable pub between : Bool → Round → Stop → Stop → Stop → Bool
@@ -64,7 +64,7 @@ pub record Leg : Type 0 where
   pub high : Stop
 
 unfoldable pub leg : Stop → Stop → Leg
-leg a b = if ltb a b then record { low = a; high = b } else record { low = b; high = a }
+leg a b = when ltb a b then record { low = a; high = b } else record { low = b; high = a }
 
 -- the legs from a stop along a list of stops
 unfoldable pub along : Legs → Stop → List Stop → Time

@@ -1,7 +1,7 @@
 -- 01, "The port", 14: `search_with_slack`, `restart_from`. Assumes nothing.
 use Rattle.std.specs.Prelude.{ℕ, zero, suc, ◌+◌, ◌-◌, ◌*◌, ◌/◌, max, Bool, true, false, ◌&&◌, List, [], ◌∷◌, leb, ltb, eqb}
 use Rattle.rules.specs.Words.{Time, Round, Legs}
-use Rattle.rules.specs.Lists.{if◌then◌else◌}
+use Rattle.rules.specs.Lists.{when◌then◌else◌}
 use Rattle.rules.specs.Draws.{moved, drawn}
 use Rattle.rules.specs.Ring.{recount}
 use Rattle.rules.specs.Journal.{Track}
@@ -78,11 +78,11 @@ module _ (p : Plan) (o : Settings) where
       let new = ltb time w.best_time in
       record {
         state = g.state;
-        best = if new then g.state.track.round else w.best;
-        best_time = if new then time else w.best_time;
+        best = when new then g.state.track.round else w.best;
+        best_time = when new then time else w.best_time;
         walk_best = time;
         walk_fails = 0;
-        fails = if new then 0 else w.fails;
+        fails = when new then 0 else w.fails;
         kicks = w.kicks;
         draw = k.draw;
         left = g.left;
@@ -93,20 +93,20 @@ module _ (p : Plan) (o : Settings) where
   unfoldable pub kicked_once : Time → Walk → Walk
   kicked_once slack w =
       let x = moved w.draw in
-      let kind = (if eqb (drawn 0 (o.one_in - 1) x) 0 then 2 else o.kind) in
+      let kind = (when eqb (drawn 0 (o.one_in - 1) x) 0 then 2 else o.kind) in
       let k = shaken (leg_of p) 1 kind w.state x in
       let g = descend p o.step (kept o.room) w.left k.state in
       let time = g.state.time in
       let new = ltb time w.best_time in
       let walk_new = ltb time w.walk_best in
-      let walk_best = (if walk_new then time else w.walk_best) in
+      let walk_best = (when walk_new then time else w.walk_best) in
       record {
-        state = if leb time (walk_best + slack) then commit g.state else undo (recount (leg_of p)) g.state;
-        best = if new then g.state.track.round else w.best;
-        best_time = if new then time else w.best_time;
+        state = when leb time (walk_best + slack) then commit g.state else undo (recount (leg_of p)) g.state;
+        best = when new then g.state.track.round else w.best;
+        best_time = when new then time else w.best_time;
         walk_best = walk_best;
-        walk_fails = if walk_new then 0 else w.walk_fails + 1;
-        fails = if new then 0 else w.fails + 1;
+        walk_fails = when walk_new then 0 else w.walk_fails + 1;
+        fails = when new then 0 else w.fails + 1;
         kicks = w.kicks + 1;
         draw = k.draw;
         left = g.left;
@@ -149,7 +149,7 @@ module _ (p : Plan) (o : Settings) where
         time = w.best_time;
         units = o.budget - w.left;
         kicks = w.kicks;
-        ended = if eqb w.left 0 then 1 else 0;
+        ended = when eqb w.left 0 then 1 else 0;
         draw = w.draw;
       }
 

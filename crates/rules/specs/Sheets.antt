@@ -1,7 +1,7 @@
 -- 01, "Sheets": the input sheet, its checks, and the answer sheet. Assumes nothing.
 use Rattle.std.specs.Prelude.{ℕ, zero, suc, ◌+◌, ◌-◌, ◌*◌, ◌/◌, min, max, Bool, true, false, ◌&&◌, List, [], ◌∷◌, ◌++◌, map, leb, eqb, length, drop}
 use Rattle.rules.specs.Words.{Stop, Time, Legs}
-use Rattle.rules.specs.Lists.{if◌then◌else◌, at, rising, each, every}
+use Rattle.rules.specs.Lists.{when◌then◌else◌, at, rising, each, every}
 use Rattle.rules.specs.Bits.{bits, field, fields, bits_of, bytes_of}
 use Rattle.rules.specs.Plan.{Plan, near_of, alpha_of}
 use Rattle.rules.specs.Numbers.{Check, ◌or◌, verdict, within, good_sizes, good_step, good_list}
@@ -53,7 +53,7 @@ triangle_at n i j = i * (2 * n - i - 1) / 2 + (j - i - 1)
 
 -- a leg and its return are one; the diagonal, which "decides nothing", is 0
 unfoldable pub triangle_leg : ℕ → List Time → Legs
-triangle_leg n triangle a b = if eqb a b then 0 else at triangle (triangle_at n (min a b) (max a b))
+triangle_leg n triangle a b = when eqb a b then 0 else at triangle (triangle_at n (min a b) (max a b))
 
 -- n rows of n legs
 unfoldable pub matrix_of : ℕ → Legs → List Time

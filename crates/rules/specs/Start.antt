@@ -1,12 +1,12 @@
 -- 01, "The port", 12: the start round, which both of the source's functions give. Assumes nothing.
 use Rattle.std.specs.Prelude.{ℕ, zero, suc, ◌+◌, ◌-◌, Bool, true, false, not, List, [], ◌∷◌, ltb, eqb}
 use Rattle.rules.specs.Words.{Stop, Time, Round, Legs}
-use Rattle.rules.specs.Lists.{if◌then◌else◌, rising, keep}
+use Rattle.rules.specs.Lists.{when◌then◌else◌, rising, keep}
 
 -- "ties to the lowest stop": of `so` and the stops of a list, the first that none is nearer than
 unfoldable pub nearest : (Stop → Time) → Stop → List Stop → Stop
 nearest f so [] = so
-nearest f so (v ∷ vs) = nearest f (if ltb (f v) (f so) then v else so) vs
+nearest f so (v ∷ vs) = nearest f (when ltb (f v) (f so) then v else so) vs
 
 -- the stops but one
 unfoldable pub without : Stop → List Stop → List Stop

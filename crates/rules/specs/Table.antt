@@ -2,7 +2,7 @@
 -- Assumes nothing.
 use Rattle.std.specs.Prelude.{ℕ, zero, suc, ◌+◌, ◌/◌, ◌%◌, ◌^◌, min, Bool, true, false, List, [], ◌∷◌, ◌++◌, map, eqb, length}
 use Rattle.rules.specs.Words.{Stop, Time, Legs}
-use Rattle.rules.specs.Lists.{if◌then◌else◌, rising, each, keep}
+use Rattle.rules.specs.Lists.{when◌then◌else◌, rising, each, keep}
 use Rattle.rules.specs.Ring.{along}
 use Rattle.rules.specs.Start.{without}
 use Rattle.rules.specs.Exact.{orders}
@@ -29,7 +29,7 @@ least_of d k so (o ∷ os) = least_of d k (min so (along d k (o ++ (0 ∷ []))))
 unfoldable pub table_word : Legs → ℕ → ℕ → Stop → Time
 table_word d m s k =
     let others = without k (members m s) in
-    if member s k then least_of d k unreached (orders (length others) others) else unreached
+    when member s k then least_of d k unreached (orders (length others) others) else unreached
 
 -- "Each set's row is written into the table where it begins": m words for each of the 2^m sets
 unfoldable pub table_of : Legs → ℕ → List Time

@@ -5,7 +5,7 @@ use mathlib.Core.Bool.{Bool, true, false}
 use mathlib.Core.List.{List, [], ◌∷◌, ◌++◌}
 use lib.Dec.{eqb}
 use Rattle.rules.specs.Words.{Stop, Time, Legs, Round}
-use Rattle.rules.specs.Lists.{if◌then◌else◌, keep}
+use Rattle.rules.specs.Lists.{when◌then◌else◌, keep}
 use Rattle.rules.specs.Ring.{ahead, behind, beside, between}
 use Rattle.rules.specs.Moves.{inner}
 use Rattle.rules.specs.Improve.{Trial, sixths}
@@ -37,7 +37,7 @@ module _ (d : Legs) (may : Trial → Bool) (so : Pick) (fwd : Bool) (r : Round) 
     module _ (y : inside ≡ true) (next : Stop) (d5n : Time) (en : next ≡ ahead fwd r t5) (e5n : d5n ≡ d t5 next) where
       -- the inner move, where t5 is not t2
       others : List Trial
-      others = (if eqb t5 t2 then [] else (record { case = inner; t3 = t3; t4 = t4; t5 = t5; t6 = behind fwd r t5; partial = g3 + d t5 (behind fwd r t5) } ∷ []))
+      others = (when eqb t5 t2 then [] else (record { case = inner; t3 = t3; t4 = t4; t5 = t5; t6 = behind fwd r t5; partial = g3 + d t5 (behind fwd r t5) } ∷ []))
 
       after_is : sixths d d no_list keep fwd r t1 t2 true t3 t4 t5 g3 ≡ (move_trial 3 (g3 + d5n) t3 t4 t5 next ∷ []) ++ others
       unfolding sixths others move_trial case_of

@@ -5,7 +5,7 @@ use mathlib.Core.Bool.{Bool, true, false}
 use mathlib.Core.List.{List, [], ◌∷◌}
 use lib.Dec.{eqb}
 use Rattle.rules.specs.Words.{Stop, Time, Legs, Round}
-use Rattle.rules.specs.Lists.{if◌then◌else◌, keep_while}
+use Rattle.rules.specs.Lists.{when◌then◌else◌, keep_while}
 use Rattle.rules.specs.Ring.{ahead, behind, beside, between}
 use Rattle.rules.specs.Moves.{Case, two, flips, segment, inner}
 use Rattle.rules.specs.Improve.{Scan, Trial, twos, sixths}
@@ -71,7 +71,7 @@ module _ (d : Legs) (fwd : Bool) (r : Round) (t1 t2 t3 t4 t5 : Stop) (g3 : Time)
     module _ (y : inside ≡ true) (next : Stop) (d5n g : Time) (en : next ≡ ahead fwd r t5) (e5n : d5n ≡ d t5 next) (eg : g ≡ g3 + d5n - d next t1) where
       -- the inner move, where t5 is not t2
       others : List Trial
-      others = (if eqb t5 t2 then [] else (trial inner t3 t4 t5 (behind fwd r t5) (g3 + d t5 (behind fwd r t5)) ∷ []))
+      others = (when eqb t5 t2 then [] else (trial inner t3 t4 t5 (behind fwd r t5) (g3 + d t5 (behind fwd r t5)) ∷ []))
 
       after_is : sixths d d no_list keep_while fwd r t1 t2 true t3 t4 t5 g3 ≡ trial segment t3 t4 t5 next (g3 + d5n) ∷ others
       unfolding sixths others

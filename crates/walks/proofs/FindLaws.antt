@@ -6,7 +6,7 @@ use mathlib.Core.List.{List}
 use lib.Dec.{eqb}
 use lib.ListN.{length}
 use Rattle.rules.specs.Words.{Time, Round, Place}
-use Rattle.rules.specs.Lists.{if◌then◌else◌}
+use Rattle.rules.specs.Lists.{when◌then◌else◌}
 use Rattle.rules.specs.Plan.{leg_of}
 use Rattle.rules.specs.Start.{start_round}
 use Rattle.rules.specs.Search.{Walk, Answer, margin, restart_after, stop_after, turns, search}
@@ -35,7 +35,7 @@ module _ (l : Lent) (step kind : ℕ) (stop : Bool) (budget x : ℕ)
   answer_is = search_is l step kind stop budget x begins f.is ∙ ap (answered budget) (sym ends)
 
   pub finds : (round : Round) (places : List Place) (flags : List ℕ) (time : Time) → Lies l.matrix best₂ round places flags time → (units kicks ended : ℕ)
-      → units ≡ budget - w.left → kicks ≡ w.kicks → ended ≡ (if eqb w.left 0 then 1 else 0)
+      → units ≡ budget - w.left → kicks ≡ w.kicks → ended ≡ (when eqb w.left 0 then 1 else 0)
       → Finds (search (plan_in l) (settings_in l step kind stop budget x)) (after l round places queue₂ flags scratch₂ journal₂) best₂ x₂ time units kicks ended
   unfolding answered walk_in
   finds round places flags time lies units kicks ended eu ek ee =

@@ -8,7 +8,7 @@ use borrow.Author.Tests.{leb-true, le-leb, ltb-false}
 use lib.Dec.{leb, ltb}
 use lib.ListN.{length}
 use Rattle.rules.specs.Words.{Time, Round, Place}
-use Rattle.rules.specs.Lists.{if◌then◌else◌}
+use Rattle.rules.specs.Lists.{when◌then◌else◌}
 use Rattle.rules.specs.Ring.{recount}
 use Rattle.rules.specs.Plan.{leg_in, leg_of}
 use Rattle.rules.specs.Journal.{Track, track_of, cleared, entries_of, undo_all}
@@ -42,12 +42,12 @@ unfolding load
 empty_loads count s g e f = λ i. record { track = record { round = s.track.round; journal = g i }; queue = e i; time = f i }
 
 settled : (count : Round → Time) (s : State) → s.queue ≡ [] → s.time ≡ count s.track.round → (b : Bool)
-    → load count (if b then s.track.round else undo_all s.track.journal s.track.round) ≡ (if b then commit s else undo count s)
+    → load count (when b then s.track.round else undo_all s.track.journal s.track.round) ≡ (when b then commit s else undo count s)
 unfolding undo
 settled count s e f true = sym (commit_loads count s e f)
 settled count s e f false = refl
 
-timed : (count : Round → Time) (time old : Time) (round back : Round) → time ≡ count round → old ≡ count back → (b : Bool) → (if b then time else old) ≡ count (if b then round else back)
+timed : (count : Round → Time) (time old : Time) (round back : Round) → time ≡ count round → old ≡ count back → (b : Bool) → (when b then time else old) ≡ count (when b then round else back)
 timed count time old round back e f true = e
 timed count time old round back e f false = f
 
@@ -74,7 +74,7 @@ module _ (l : Lent) (best : Round) (t : Tally) (r : Rests l best t.time) (step k
   sound = dive_sound l t.time r.works kind x r.given step t.left
 
   walk_record : Time
-  walk_record = if ltb ran.state.time t.walk then ran.state.time else t.walk
+  walk_record = when ltb ran.state.time t.walk then ran.state.time else t.walk
 
   pub turn_is : walk_in (after l round places queue flags scratch journal) best' t' new ≡ kicked_once (plan_in l) (told l step kind false) slack (walk_in l best t x)
   unfolding walk_in kicked_once told settings_in kick_of kind_of ran plan_in judged walk_record
@@ -83,7 +83,7 @@ module _ (l : Lent) (best : Round) (t : Tally) (r : Rests l best t.time) (step k
       let count : Round → Time = recount (leg_of (plan_in l)) in
       let q : s.queue ≡ [] = descend_queue (plan_in l) step (kept (room_in l)) t.left (kick_of (plan_in l) kind l.round x).state in
       let z : t' ≡ judged slack s.time ran.left t = judges.tally_is in
-      let st : load count round ≡ (if leb s.time (walk_record + slack) then commit s else undo count s) = ap (load count) judges.laid.round_is ∙ settled count s q sound.carried (leb s.time (walk_record + slack)) in
+      let st : load count round ≡ (when leb s.time (walk_record + slack) then commit s else undo count s) = ap (load count) judges.laid.round_is ∙ settled count s q sound.carried (leb s.time (walk_record + slack)) in
       λ i. record {
         state = st i;
         best = judges.best_is i;
@@ -133,7 +133,7 @@ module _ (l : Lent) (best : Round) (t : Tally) (r : Rests l best t.time) (step k
   turn_goes = record { is = turn_is; rests = turn_rests }
 
 -- ---- what `judge` does
-pub lesser_low : (a b : Time) → (if ltb a b then a else b) ≤ a
+pub lesser_low : (a b : Time) → (when ltb a b then a else b) ≤ a
 lesser_low a b = either_if (λ (c : Time). c ≤ a) (ltb a b) (λ y. omega arith) (λ y. ltb-false a b y)
 
 -- within the margin, told without a sum
@@ -141,17 +141,17 @@ accept_is : (now walk slack : ℕ) → walk ≤ now → leb (now - walk) slack �
 accept_is now walk slack h = equal_tests (leb (now - walk) slack) (leb now (walk + slack)) (λ e. let f : now - walk ≤ slack = leb-true (now - walk) slack e in le-leb now (walk + slack) (omega arith)) (λ e. let f : now ≤ walk + slack = leb-true now (walk + slack) e in le-leb (now - walk) slack (omega arith))
 
 pub judge_done : (slack now left : ℕ) (t : Tally) (round back best round' : Round) (places' : List Place) (best' : Round) (walk time₂ best₂ stale₂ fails₂ : ℕ)
-    → walk ≡ (if ltb now t.walk then now else t.walk) → best' ≡ (if ltb now t.best then round else best) → Laid (if leb (now - walk) slack then round else back) round' places'
-    → time₂ ≡ (if leb (now - walk) slack then now else t.time) → best₂ ≡ (if ltb now t.best then now else t.best)
-    → stale₂ ≡ (if ltb now t.walk then 0 else t.stale + 1) → fails₂ ≡ (if ltb now t.best then 0 else t.fails + 1)
+    → walk ≡ (when ltb now t.walk then now else t.walk) → best' ≡ (when ltb now t.best then round else best) → Laid (when leb (now - walk) slack then round else back) round' places'
+    → time₂ ≡ (when leb (now - walk) slack then now else t.time) → best₂ ≡ (when ltb now t.best then now else t.best)
+    → stale₂ ≡ (when ltb now t.walk then 0 else t.stale + 1) → fails₂ ≡ (when ltb now t.best then 0 else t.fails + 1)
     → Judges slack now left t round back best round' places' best' (tallying time₂ best₂ walk stale₂ fails₂ (t.kicks + 1) left)
 unfolding judged
 judge_done slack now left t round back best round' places' best' walk time₂ best₂ stale₂ fails₂ ew eb la et e₂ es ef =
     let low : walk ≤ now = omega (arith, lesser_low now t.walk) in
-    let ac : leb (now - walk) slack ≡ leb now ((if ltb now t.walk then now else t.walk) + slack) = accept_is now walk slack low ∙ ap (λ (z : ℕ). leb now (z + slack)) ew in
-    let tm : time₂ ≡ (if leb now ((if ltb now t.walk then now else t.walk) + slack) then now else t.time) = et ∙ ap (λ (z : Bool). (if z then now else t.time)) ac in
+    let ac : leb (now - walk) slack ≡ leb now ((when ltb now t.walk then now else t.walk) + slack) = accept_is now walk slack low ∙ ap (λ (z : ℕ). leb now (z + slack)) ew in
+    let tm : time₂ ≡ (when leb now ((when ltb now t.walk then now else t.walk) + slack) then now else t.time) = et ∙ ap (λ (z : Bool). (when z then now else t.time)) ac in
     record {
       best_is = eb;
-      laid = subst (λ (z : Bool). Laid (if z then round else back) round' places') ac la;
+      laid = subst (λ (z : Bool). Laid (when z then round else back) round' places') ac la;
       tally_is = λ i. record { time = tm i; best = e₂ i; walk = ew i; stale = es i; fails = ef i; kicks = t.kicks + 1; left = left };
     }

@@ -7,7 +7,7 @@ use native.Mathlib.Omega.{arith}
 use lib.Dec.{leb, ltb}
 use lib.ListN.{length}
 use Rattle.rules.specs.Words.{Time, Round, Place, Stop}
-use Rattle.rules.specs.Lists.{if◌then◌else◌, at, tally, every, rising}
+use Rattle.rules.specs.Lists.{when◌then◌else◌, at, tally, every, rising}
 use Rattle.rules.specs.Ring.{recount}
 use Rattle.rules.specs.Queue.{waiting, flags_of}
 use Rattle.rules.specs.Plan.{leg_in, leg_of}
@@ -94,7 +94,7 @@ module _ (l : Lent) (best : Round) (t : Tally) (r : Rests l best t.time) (step x
     (k : Shook (shaken (leg_in l.n l.matrix) 32 0 (load (recount (leg_in l.n l.matrix)) best) x) (bare l.n l.matrix round₁ places₁ queue₁ flags₁ scratch₁ journal₁) c₁ x₁)
     (round : Round) (places : List Place) (queue flags scratch journal : List ℕ) {c : Carried} {left : ℕ}
     (d : Dives (descend (plan_in (after l round₁ places₁ queue₁ flags₁ scratch₁ journal₁)) step (manner_of false (room_in (after l round₁ places₁ queue₁ flags₁ scratch₁ journal₁))) t.left (state_in (after l round₁ places₁ queue₁ flags₁ scratch₁ journal₁) c₁)) x₁ (after l round places queue flags scratch journal) c left x₁)
-    (best' : Round) (eb : best' ≡ (if ltb c.time t.best then round else best)) (t' : Tally) (et : t' ≡ renewed c.time left t) where
+    (best' : Round) (eb : best' ≡ (when ltb c.time t.best then round else best)) (t' : Tally) (et : t' ≡ renewed c.time left t) where
   shook : Shaken
   shook = shaken (leg_of (plan_in l)) 32 0 (load (recount (leg_of (plan_in l))) best) x
 
@@ -132,7 +132,7 @@ module _ (l : Lent) (best : Round) (t : Tally) (r : Rests l best t.time) (step x
   restart_is =
       let count : Round → Time = recount (leg_of (plan_in l)) in
       let z : t' ≡ renewed went.state.time went.left t = et ∙ ap₂ (λ (a b : ℕ). renewed a b t) time_is left_is in
-      let b : best' ≡ (if ltb went.state.time t.best then went.state.track.round else best) = eb ∙ ap₂ (λ (a : Time) (u : Round). (if ltb a t.best then u else best)) time_is round_is in
+      let b : best' ≡ (when ltb went.state.time t.best then went.state.track.round else best) = eb ∙ ap₂ (λ (a : Time) (u : Round). (when ltb a t.best then u else best)) time_is round_is in
       let st : load count round ≡ went.state = ap (load count) round_is ∙ sym (ran_loads l r.given step t.left shook.state shook_sound) in
       λ i. record {
         state = st i;

@@ -8,7 +8,7 @@ use borrow.Author.Tests.{lt-ltb, ltb-true}
 use lib.Dec.{eqb, ltb}
 use lib.ListN.{length}
 use Rattle.rules.specs.Words.{Legs, Place}
-use Rattle.rules.specs.Lists.{if◌then◌else◌, at}
+use Rattle.rules.specs.Lists.{when◌then◌else◌, at}
 use Rattle.rules.specs.Draws.{Span, ◌to◌, draws}
 use Rattle.rules.specs.Journal.{Track, track_of, entries_of, doing, swap}
 use Rattle.rules.specs.Kicks.{Kicked, kick, kicked, kicked_state, kind_at, longest, spans, global_spans, shuffle_spans, global_kick, segment_kick, shuffle_kick, shuffled}
@@ -27,7 +27,7 @@ unfolding shuffled doing
 shuffled_few start [] t = omega arith
 shuffled_few start (v ∷ vs) t =
     let k = length (v ∷ vs) in
-    let t' : Track = (if eqb v k then t else doing (swap (start + v) (start + k)) t) in
+    let t' : Track = (when eqb v k then t else doing (swap (start + v) (start + k)) t) in
     let one : length t'.journal ≤ length t.journal + 1 = either_way (λ (u : Track). length u.journal ≤ length t.journal + 1) (eqb v k) (omega arith) (omega arith) in
     let rest : length (shuffled start vs t').journal ≤ length t'.journal + length vs = shuffled_few start vs t' in
     omega arith
@@ -56,8 +56,8 @@ module _ (d : Legs) (t : Track) where
   kick_short x = go (ltb (longest (length t.round)) 2) refl (draws (spans (length t.round) 0) x).values (kick_draws (length t.round) 0 x)
     where
       go : (c : Bool) → ltb (longest (length t.round)) 2 ≡ c → (vs : List ℕ)
-          → InSpans (elim (if◌then◌else◌ {A = ℕ} c 2 0) as (λ m. List Span) [ zero ↦ (1 to longest (length t.round)) ∷ (1 to longest (length t.round)) ∷ (1 to longest (length t.round)) ∷ (0 to (length t.round - 1)) ∷ [] | suc k ↦ if eqb k 0 then ((1 to longest (length t.round)) ∷ (1 to longest (length t.round)) ∷ (0 to (length t.round - 1)) ∷ []) else global_spans (length t.round) ]) vs
-          → length (elim (if◌then◌else◌ {A = ℕ} c 2 0) as (λ m. Kicked) [ zero ↦ segment_kick d (at vs 0) (at vs 1) (at vs 2) (at vs 3) t | suc k ↦ if eqb k 0 then segment_kick d (at vs 0) 0 (at vs 1) (at vs 2) t else global_kick d vs t ]).track.journal ≤ length t.journal + 5
+          → InSpans (elim (when◌then◌else◌ {A = ℕ} c 2 0) as (λ m. List Span) [ zero ↦ (1 to longest (length t.round)) ∷ (1 to longest (length t.round)) ∷ (1 to longest (length t.round)) ∷ (0 to (length t.round - 1)) ∷ [] | suc k ↦ when eqb k 0 then ((1 to longest (length t.round)) ∷ (1 to longest (length t.round)) ∷ (0 to (length t.round - 1)) ∷ []) else global_spans (length t.round) ]) vs
+          → length (elim (when◌then◌else◌ {A = ℕ} c 2 0) as (λ m. Kicked) [ zero ↦ segment_kick d (at vs 0) (at vs 1) (at vs 2) (at vs 3) t | suc k ↦ when eqb k 0 then segment_kick d (at vs 0) 0 (at vs 1) (at vs 2) t else global_kick d vs t ]).track.journal ≤ length t.journal + 5
       go true e vs f = global_few vs (six (length t.round) e) f
       go false e vs f = segment_few (at vs 0) (at vs 1) (at vs 2) (at vs 3)
 

@@ -10,7 +10,7 @@ use borrow.Author.Tests.{eqb-false, lt-ltb, le-ltb}
 use lib.Dec.{leb, ltb, eqb}
 use lib.ListN.{length}
 use Rattle.rules.specs.Words.{Time, Round, Place}
-use Rattle.rules.specs.Lists.{if◌then◌else◌}
+use Rattle.rules.specs.Lists.{when◌then◌else◌}
 use Rattle.rules.specs.Ring.{recount}
 use Rattle.rules.specs.Plan.{Plan, leg_of}
 use Rattle.rules.specs.Draws.{drawn, moved}
@@ -68,14 +68,14 @@ turned_told p l l' step kind stop slack w en ej = ap₂ (λ (n m : ℕ). turned 
 
 -- each count grows by one at most
 module _ (p : Plan) (o : Settings) (slack : Time) (w : Walk) where
-  within : (b : Bool) (m : ℕ) → (if b then 0 else m + 1) ≤ m + 1
+  within : (b : Bool) (m : ℕ) → (when b then 0 else m + 1) ≤ m + 1
   within b m = either_way (λ (z : ℕ). z ≤ m + 1) b (omega arith) (omega arith)
 
-  within_same : (b : Bool) (m : ℕ) → (if b then 0 else m) ≤ m + 1
+  within_same : (b : Bool) (m : ℕ) → (when b then 0 else m) ≤ m + 1
   within_same b m = either_way (λ (z : ℕ). z ≤ m + 1) b (omega arith) (omega arith)
 
   kick_time : Time
-  kick_time = (descend p o.step (kept o.room) w.left (shaken (leg_of p) 1 (if eqb (drawn 0 (o.one_in - 1) (moved w.draw)) 0 then 2 else o.kind) w.state (moved w.draw)).state).state.time
+  kick_time = (descend p o.step (kept o.room) w.left (shaken (leg_of p) 1 (when eqb (drawn 0 (o.one_in - 1) (moved w.draw)) 0 then 2 else o.kind) w.state (moved w.draw)).state).state.time
 
   restart_time : Time
   restart_time = (descend p o.step committed w.left (shaken (leg_of p) 32 0 (load (recount (leg_of p)) w.best) w.draw).state).state.time

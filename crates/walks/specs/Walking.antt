@@ -1,7 +1,7 @@
 -- What the parts of a search ask and promise. Assumes nothing.
 use Rattle.std.specs.Prelude.{ℕ, ◌+◌, ◌-◌, ◌≤◌, ◌<◌, ◌≡◌, Bool, true, false, ◌&&◌, ◌||◌, List, [], leb, ltb, eqb, length}
 use Rattle.rules.specs.Words.{Time, Round, Place}
-use Rattle.rules.specs.Lists.{if◌then◌else◌, at}
+use Rattle.rules.specs.Lists.{when◌then◌else◌, at}
 use Rattle.rules.specs.Draws.{moved, drawn}
 use Rattle.rules.specs.Ring.{recount}
 use Rattle.rules.specs.Journal.{good_journal}
@@ -40,13 +40,13 @@ pub record Counts (t : Tally) : Type 0 where
 -- the numbers after a kick and its descent that ended at time `now`
 unfoldable pub judged : Time → Time → ℕ → Tally → Tally
 judged slack now left t =
-    let walk = (if ltb now t.walk then now else t.walk) in
+    let walk = (when ltb now t.walk then now else t.walk) in
     record {
-      time = if leb now (walk + slack) then now else t.time;
-      best = if ltb now t.best then now else t.best;
+      time = when leb now (walk + slack) then now else t.time;
+      best = when ltb now t.best then now else t.best;
       walk = walk;
-      stale = if ltb now t.walk then 0 else t.stale + 1;
-      fails = if ltb now t.best then 0 else t.fails + 1;
+      stale = when ltb now t.walk then 0 else t.stale + 1;
+      fails = when ltb now t.best then 0 else t.fails + 1;
       kicks = t.kicks + 1;
       left = left;
     }
@@ -56,10 +56,10 @@ unfoldable pub renewed : Time → ℕ → Tally → Tally
 renewed now left t =
     record {
       time = now;
-      best = if ltb now t.best then now else t.best;
+      best = when ltb now t.best then now else t.best;
       walk = now;
       stale = 0;
-      fails = if ltb now t.best then 0 else t.fails;
+      fails = when ltb now t.best then 0 else t.fails;
       kicks = t.kicks;
       left = left;
     }
@@ -139,7 +139,7 @@ told l step kind stop = settings_in l step kind stop 0 0
 
 -- "One kick in 16 is global: a first draw from 0 to 15 gives 0"
 unfoldable pub kind_of : ℕ → ℕ → ℕ
-kind_of kind x = if eqb (drawn 0 15 (moved x)) 0 then 2 else kind
+kind_of kind x = when eqb (drawn 0 15 (moved x)) 0 then 2 else kind
 
 unfoldable pub kick_of : Plan → ℕ → Round → ℕ → Shaken
 kick_of p kind r x = shaken (leg_of p) 1 (kind_of kind x) (load (recount (leg_of p)) r) (moved x)
@@ -165,8 +165,8 @@ pub record Shook (k : Shaken) (l : Lent) (c : Carried) (draw : ℕ) : Type 0 whe
 
 -- records, the best round and acceptance, after a descent to `round` that ended at time `now`
 pub record Judges (slack now left : ℕ) (t : Tally) (round back best : Round) (round' : Round) (places' : List Place) (best' : Round) (t' : Tally) : Type 0 where
-  pub best_is : best' ≡ (if ltb now t.best then round else best)
-  pub laid : Laid (if leb now ((if ltb now t.walk then now else t.walk) + slack) then round else back) round' places'
+  pub best_is : best' ≡ (when ltb now t.best then round else best)
+  pub laid : Laid (when leb now ((when ltb now t.walk then now else t.walk) + slack) then round else back) round' places'
   pub tally_is : t' ≡ judged slack now left t
 
 -- ---- the whole search
@@ -195,7 +195,7 @@ answered budget w =
       time = w.best_time;
       units = budget - w.left;
       kicks = w.kicks;
-      ended = if eqb w.left 0 then 1 else 0;
+      ended = when eqb w.left 0 then 1 else 0;
       draw = w.draw;
     }
 

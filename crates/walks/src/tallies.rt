@@ -1,6 +1,6 @@
 // The numbers of a walk.
 ghost use Rattle.std.specs.Prelude.{◌≡◌, Bool, ◌&&◌, ◌||◌, ℕ, ◌+◌, ◌-◌, ◌*◌, ◌/◌, ◌<◌, ◌≤◌, max, leb, ltb, eqb};
-ghost use Rattle.rules.specs.Lists.{if◌then◌else◌};
+ghost use Rattle.rules.specs.Lists.{when◌then◌else◌};
 ghost use Rattle.rules.specs.Search.{margin, restart_after as restart_after_of, stop_after as stop_after_of};
 ghost use Rattle.walks.specs.Walking.{over};
 
@@ -20,21 +20,21 @@ pub struct Tally {
 
 // The lesser time.
 pub fn lesser(a: u32, b: u32) -> u32
-    ensures { result ≡ (if ltb a b then a else b) }
+    ensures { result ≡ (when ltb a b then a else b) }
 {
     if a < b { a } else { b }
 }
 
 // A count that begins anew with a record.
 pub fn counted(new: bool, count: u32) -> u32
-    ensures { result ≡ (if new then 0 else count) }
+    ensures { result ≡ (when new then 0 else count) }
 {
     if new { 0 } else { count }
 }
 
 // The time of what is accepted, else the old one.
 pub fn carried(accept: bool, now: u32, old: u32) -> u32
-    ensures { result ≡ (if accept then now else old) }
+    ensures { result ≡ (when accept then now else old) }
 {
     if accept { now } else { old }
 }
@@ -79,7 +79,7 @@ pub fn is_over(stop: bool, limit: u32, left: u32, fails: u32) -> bool
 
 // 1 where no unit is left, else 0.
 pub fn ended_of(left: u32) -> u32
-    ensures { result ≡ (if eqb left 0 then 1 else 0) }
+    ensures { result ≡ (when eqb left 0 then 1 else 0) }
 {
     if left == 0 { 1 } else { 0 }
 }

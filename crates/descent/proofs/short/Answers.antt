@@ -1,4 +1,4 @@
-use Rattle.rules.specs.Lists.{if◌then◌else◌}
+use Rattle.rules.specs.Lists.{when◌then◌else◌}
 use Prim.Native.Nat.{◌-◌}
 use mathlib.Core.Path.{sym, ap}
 use mathlib.Core.Bool.{Bool, false}
@@ -7,7 +7,7 @@ use borrow.Author.Rules.{rules}
 use Rattle.descent.proofs.short.Goals as goal
 
 pub returns-then-keeps : goal.returns-then-keeps
-returns-then-keeps c = let a = c.args in sym (ap (λ (b : Bool). if b then ltb (a.room - a.held) 100 else false) c.if-keeps.true)
+returns-then-keeps c = let a = c.args in sym (ap (λ (b : Bool). when b then ltb (a.room - a.held) 100 else false) c.if-keeps.true)
 
 pub returns : goal.returns
-returns c = let a = c.args in sym (ap (λ (b : Bool). if b then ltb (a.room - a.held) 100 else false) c.if-keeps.false)
+returns c = let a = c.args in sym (ap (λ (b : Bool). when b then ltb (a.room - a.held) 100 else false) c.if-keeps.false)

@@ -1,6 +1,6 @@
 use Prim.Native.Nat.{ℕ, ◌-◌}
 use lib.Dec.{eqb}
-use Rattle.rules.specs.Lists.{if◌then◌else◌}
+use Rattle.rules.specs.Lists.{when◌then◌else◌}
 use Rattle.rules.specs.Draws.{drawn, moved}
 use mathlib.Core.Path.{◌≡◌}
 use native.Mathlib.Omega.{arith}
@@ -29,7 +29,7 @@ returns c =
     let x4 : ℕ = c.draw-start.new.state in
     let l = c.longest-high.ensures.is in
     let a : c.wide.result ≡ drawn 1 (longestOf n) (moved x) = rw (← l) (omega (arith, c.draw-a.ensures.is, c.wide.ensures)) in
-    let b : c.wide-2.result ≡ (if eqb kind 0 then drawn 1 (longestOf n) (moved x1) else 0) = rw (← l) (omega (arith, c.draw_middle-b.ensures.is, c.wide-2.ensures)) in
+    let b : c.wide-2.result ≡ (when eqb kind 0 then drawn 1 (longestOf n) (moved x1) else 0) = rw (← l) (omega (arith, c.draw_middle-b.ensures.is, c.wide-2.ensures)) in
     let d : c.wide-3.result ≡ drawn 1 (longestOf n) (moved x2) = rw (← l) (omega (arith, c.draw-c.ensures.is, c.wide-3.ensures)) in
     let s : c.draw-start.result ≡ drawn 0 (n - 1) (moved x3) = rw (← c.narrow.ensures) (omega (arith, c.draw-start.ensures.is)) in
     record {
