@@ -2,7 +2,6 @@
 use Rattle.std.specs.Prelude.{ℕ, ◌<◌, ◌≡◌, List, ◌++◌, length, drop}
 use Rattle.rules.specs.Words.{Round, Time}
 use Rattle.rules.specs.Lists.{at}
-use Rattle.rules.specs.Search.{Answer}
 use Rattle.rules.specs.Sheets.{answer_bytes}
 
 -- stops of 12 bits

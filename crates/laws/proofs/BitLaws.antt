@@ -1,15 +1,14 @@
 -- 01, "Sheets": bits, the fields that they are read by, and the bytes that they fill.
-use mathlib.Core.Path.{◌≡◌, refl, sym, ap, ◌∙◌, subst}
+use mathlib.Core.Path.{◌≡◌, refl, sym, ap, ◌∙◌}
 use mathlib.Core.List.{List, [], ◌∷◌, ◌++◌, append_assoc, append-nil}
-use Prim.Native.Nat.{ℕ, zero, suc, ◌+◌, ◌-◌, ◌*◌, ◌/◌, ◌%◌, ◌^◌, ◌≤◌, ◌<◌, min}
-use native.Mathlib.Nat.{zero-add, suc-add, add_comm, add_assoc, add-mul, mul_assoc, mul_comm, pow-suc, mod-lt, mod-eq_of_lt, mul-suc, mul-zero, mod-mod, mul-le-mul_right}
+use Prim.Native.Nat.{ℕ, zero, suc, ◌+◌, ◌*◌, ◌/◌, ◌%◌, ◌^◌, ◌≤◌, ◌<◌}
+use native.Mathlib.Nat.{zero-add, suc-add, add_comm, add-mul, mul_assoc, mul_comm, pow-suc, mod-eq_of_lt, mul-suc, mul-zero, mul-le-mul_right}
 use native.Mathlib.Omega.{arith}
 use native.Mathlib.Numerals.{add-one}
-use lib.ListN.{length, get_or, take, drop, replicate, length-append, length-take, length-drop, get_or-append, get_or-eq_default, take-append-drop}
-use lib.Seq.{take-add, drop-drop, take_at, drop_at, length-take-le, drop-append-add, take-append-add, drop-cons, get_or-take, get_or-drop, take-append-le, drop-append-le, drop-nil, take-nil}
-use lib.Pow.{shr-shr, mod-pow-add, mod-mod-pow, high, low, pow_pos, pow-add}
+use lib.ListN.{length, get_or, take, drop, replicate, length-append, length-take, length-drop}
+use lib.Seq.{take-add, drop-drop, take_at, drop_at, drop-append-add, drop-cons, take-append-le, drop-append-le, drop-nil}
+use lib.Pow.{shr-shr, mod-pow-add, mod-mod-pow, high, low, pow_pos}
 use lib.Pow.{field as pow_field}
-use mathlib.Core.Bool.{true, false}
 use lib.Dec.{eqb}
 use borrow.Author.Tests.{ne_eqb}
 use Rattle.rules.specs.Lists.{each, every}

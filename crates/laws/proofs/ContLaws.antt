@@ -1,23 +1,23 @@
 -- 01, 8: what is left of a level's scan from an entry on, as the list of continuations that are still to come.
-use Prim.Native.Nat.{ℕ, zero, suc, ◌+◌, ◌-◌, ◌≤◌, ◌<◌}
-use mathlib.Core.Path.{◌≡◌, refl, sym, ap, subst, ◌∙◌}
+use Prim.Native.Nat.{ℕ, ◌+◌, ◌≤◌, ◌<◌}
+use mathlib.Core.Path.{◌≡◌, refl, sym, ap, ◌∙◌}
 use mathlib.Core.Logic.{◌≢◌}
-use mathlib.Core.Bool.{Bool, true, false, not, ◌||◌, ◌&&◌}
+use mathlib.Core.Bool.{Bool, true, false, ◌||◌, ◌&&◌}
 use mathlib.Core.List.{List, [], ◌∷◌, map}
 use native.Mathlib.Numerals.{add-one}
 use native.Mathlib.Omega.{arith}
-use borrow.Author.Tests.{lt-ltb, le-ltb, ltb-true, ltb-false, eqb-true, eq-eqb, leb-true, leb-false}
-use lib.Dec.{ltb, leb, eqb}
+use borrow.Author.Tests.{ltb-true, eqb-true, eq-eqb}
+use lib.Dec.{ltb, eqb}
 use lib.ListN.{length, drop, drop_of_length-le}
 use lib.Seq.{drop-cons}
 use Rattle.rules.specs.Words.{Stop, Time}
 use Rattle.rules.specs.Lists.{at, keep, keep_while}
-use Rattle.rules.specs.Ring.{Leg, leg, succ, ahead, behind}
+use Rattle.rules.specs.Ring.{Leg, leg}
 use Rattle.rules.specs.Plan.{Plan, leg_of, near_of}
 use Rattle.rules.specs.Improve.{Trial, free3}
 use Rattle.rules.specs.Step.{Step, among}
 use Rattle.rules.specs.Lk.{cont_of, may_flip, conts}
-use Rattle.laws.proofs.ChoiceLaws.{either_if, not_so, and-true, nor_true, true_false}
+use Rattle.laws.proofs.ChoiceLaws.{either_if, not_so, and-true, true_false}
 
 -- ---- along a list
 module _ (p : Plan) (fwd : Bool) (s : Step) (t1 t2 : Stop) (g : Time) where

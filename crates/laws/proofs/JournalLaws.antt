@@ -1,5 +1,5 @@
 -- 01, 5: an entry in range is taken back, and any entries in range since a mark lead back to the track of the mark.
-use Prim.Native.Nat.{◌+◌, ◌-◌, ◌≤◌, suc, zero, ℕ}
+use Prim.Native.Nat.{◌-◌, ◌≤◌, suc, zero, ℕ}
 use mathlib.Core.Path.{◌∙◌, ◌≡◌, ap, refl, sym}
 use mathlib.Core.Bool.{true}
 use mathlib.Core.List.{List, [], ◌++◌, ◌∷◌, append_assoc, append-nil}

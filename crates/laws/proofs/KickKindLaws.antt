@@ -12,7 +12,7 @@ use Rattle.rules.specs.Words.{Place, Legs}
 use Rattle.rules.specs.Lists.{when◌then◌else◌, at}
 use Rattle.rules.specs.Draws.{Span, ◌to◌, Drawn, drawn, moved, draws}
 use Rattle.rules.specs.Journal.{Track}
-use Rattle.rules.specs.Kicks.{Kicked, Kick, kind_at, longest, global_spans, spans, segment_kick, global_kick, kicked, kick}
+use Rattle.rules.specs.Kicks.{Kicked, kind_at, longest, global_spans, spans, segment_kick, global_kick, kicked, kick}
 
 -- ---- the kind that is carried out
 -- where the longest segment is under 2, no kind 0 or 1 is

@@ -5,7 +5,7 @@ use mathlib.Core.Bool.{Bool, false, true}
 use mathlib.Core.List.{List, [], ◌++◌, ◌∷◌, append_assoc, append-nil, reverse, reverse-append}
 use native.Mathlib.Omega.{arith}
 use lib.ListN.{drop, length, length-append, length-reverse, take, take-append-drop}
-use Rattle.rules.specs.Lists.{at, tally}
+use Rattle.rules.specs.Lists.{tally}
 use Rattle.rules.specs.Ring.{recount, turn}
 use Rattle.rules.specs.Words.{Legs, Round, Stop}
 use Rattle.laws.proofs.EvenLaws.{Even, recount_even}

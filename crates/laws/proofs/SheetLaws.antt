@@ -13,7 +13,7 @@ use Rattle.rules.specs.Lists.{every, rising}
 use Rattle.rules.specs.Numbers.{symmetric, verdict}
 use Rattle.rules.specs.Plan.{leg_in, leg_of}
 use Rattle.rules.specs.Search.{search}
-use Rattle.rules.specs.Sheets.{Header, Outcome, answer_bytes, header_in, plan_on, settings_on, sheet_checks, solve, triangle_leg}
+use Rattle.rules.specs.Sheets.{Header, answer_bytes, header_in, plan_on, settings_on, sheet_checks, solve, triangle_leg}
 use Rattle.rules.specs.Words.{Legs}
 use Rattle.laws.proofs.EvenLaws.{Even}
 use Rattle.laws.proofs.MatrixLaws.{matrix_at}

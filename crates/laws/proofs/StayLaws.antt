@@ -1,17 +1,16 @@
 -- 01, 7 to 10: a step that gains 0 leaves the track as it was and queues nothing, whatever legs and lists are.
 use Prim.Native.Nat.{◌-◌, ◌<◌, suc, zero, ℕ}
-use mathlib.Core.Path.{◌∙◌, ◌≡◌, ap, refl, subst, sym}
+use mathlib.Core.Path.{◌≡◌, ap, refl, subst, sym}
 use mathlib.Core.Bool.{Bool, false, true}
 use mathlib.Core.List.{List, [], ◌∷◌}
 use native.Mathlib.Omega.{arith}
 use lib.Dec.{eqb, ltb}
 use lib.ListN.{length}
 use borrow.Author.Tests.{ltb-true}
-use Rattle.rules.specs.Descend.{step_from}
 use Rattle.rules.specs.Improve.{Found, Trial, first_closing, improve, improve_both, nothing, or_else, touching, trials}
 use Rattle.rules.specs.Journal.{Track}
 use Rattle.rules.specs.Lists.{when◌then◌else◌, keep}
-use Rattle.rules.specs.Lk.{Best, deepen, lk_from, lk_side}
+use Rattle.rules.specs.Lk.{deepen, lk_from, lk_side}
 use Rattle.rules.specs.Lk3.{breadth3, level3, lk3_from, lk3_side, may_go_on, moved3, try_each3}
 use Rattle.rules.specs.Plan.{Plan, alpha_of, leg_of}
 use Rattle.rules.specs.Ring.{ahead, succ}

@@ -1,13 +1,12 @@
 -- 01, "Sheets": where a leg stands in the upper triangle, and which legs a sheet's matrix holds.
-use Prim.Native.Nat.{◌*◌, ◌+◌, ◌-◌, ◌/◌, ◌<◌, ◌≤◌, max, min, ℕ}
-use mathlib.Core.Path.{◌∙◌, ◌≡◌, ap, refl, sym}
+use Prim.Native.Nat.{◌*◌, ◌+◌, ◌-◌, ◌/◌, ◌<◌, ◌≤◌, ℕ}
+use mathlib.Core.Path.{◌∙◌, ◌≡◌, ap, sym}
 use mathlib.Core.List.{List}
 use native.Mathlib.Nat.{add-mul, max-eq_left, max-eq_right, min-eq_left, min-eq_right, mul-add, mul_assoc, mul_comm, mul-le-mul_left, mul-one, one-mul}
 use native.Mathlib.Omega.{arith}
 use native.Mathlib.Decide.{dec_lt}
-use lib.Dec.{eqb}
 use borrow.Author.Tests.{eq-eqb, ne_eqb}
-use Rattle.rules.specs.Lists.{at, when◌then◌else◌}
+use Rattle.rules.specs.Lists.{at}
 use Rattle.rules.specs.Sheets.{triangle_at, triangle_leg}
 use Rattle.rules.specs.Words.{Stop, Time}
 

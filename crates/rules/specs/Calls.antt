@@ -1,16 +1,15 @@
 -- What each public call does where it is not refused: the state that it leaves and its results. A refusal leaves everything as it came and
 -- gives 0 in every result but the number. Assumes nothing.
-use Rattle.std.specs.Prelude.{ℕ, zero, suc, ◌+◌, ◌-◌, ◌*◌, ◌/◌, Bool, true, false, List, [], ◌∷◌, ◌++◌, length, drop}
+use Rattle.std.specs.Prelude.{ℕ, ◌-◌, Bool, List, ◌++◌, length, drop}
 use Rattle.rules.specs.Words.{Place, Time, Round}
 use Rattle.rules.specs.Lists.{when◌then◌else◌}
 use Rattle.rules.specs.Ring.{recount}
 use Rattle.rules.specs.Plan.{leg_in, leg_of}
 use Rattle.rules.specs.State.{State, commit, load, undo}
-use Rattle.rules.specs.Descend.{kept, committed, Manner, Ran, descend}
-use Rattle.rules.specs.Kicks.{Kicked, Kick, kick, kicked_state}
-use Rattle.rules.specs.Exact.{exact_round}
+use Rattle.rules.specs.Descend.{kept, committed, descend}
+use Rattle.rules.specs.Kicks.{kick, kicked_state}
 use Rattle.rules.specs.Table.{table_of}
-use Rattle.rules.specs.Search.{Settings, Answer, search, restart_after, stop_after}
+use Rattle.rules.specs.Search.{Settings, search, restart_after, stop_after}
 use Rattle.rules.specs.Memory.{Lent, Carried, room_in, plan_in, state_in}
 
 -- the state that is left with its queue's head, the draw state, the legs that a kick added and removed (its signed change is the first

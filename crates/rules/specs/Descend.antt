@@ -1,5 +1,5 @@
 -- 01, "The port", 10: `descend`, kept and committed. Assumes nothing.
-use Rattle.std.specs.Prelude.{ℕ, zero, suc, ◌+◌, ◌-◌, Bool, true, false, List, [], ◌∷◌, ltb, length}
+use Rattle.std.specs.Prelude.{ℕ, zero, suc, ◌-◌, Bool, true, false, List, [], ◌∷◌, ltb, length}
 use Rattle.rules.specs.Words.{Stop, Time}
 use Rattle.rules.specs.Lists.{when◌then◌else◌}
 use Rattle.rules.specs.Queue.{push_all}

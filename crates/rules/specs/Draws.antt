@@ -1,5 +1,5 @@
 -- 01, "Draws". Assumes nothing.
-use Rattle.std.specs.Prelude.{ℕ, zero, suc, ◌+◌, ◌-◌, ◌*◌, ◌/◌, ◌%◌, ◌^◌, List, [], ◌∷◌}
+use Rattle.std.specs.Prelude.{ℕ, ◌+◌, ◌-◌, ◌*◌, ◌/◌, ◌%◌, ◌^◌, List, [], ◌∷◌}
 use Rattle.std.specs.Int.Bits.{digits, differ}
 
 -- the exclusive or of two numbers of 64 bits: the library's `bit_xor` there, bit by bit, so that it computes

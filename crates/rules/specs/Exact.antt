@@ -1,6 +1,6 @@
 -- 01, "The port", 13: the exact round. Unequal times allowed. Assumes nothing.
-use Rattle.std.specs.Prelude.{ℕ, zero, suc, ◌-◌, ◌≤◌, ◌<◌, ◌≡◌, Bool, true, false, List, [], ◌∷◌, map, ltb}
-use Rattle.rules.specs.Words.{Stop, Time, Round, Legs}
+use Rattle.std.specs.Prelude.{ℕ, zero, suc, ◌-◌, ◌≤◌, ◌<◌, ◌≡◌, true, List, [], ◌∷◌, map, ltb}
+use Rattle.rules.specs.Words.{Stop, Round, Legs}
 use Rattle.rules.specs.Lists.{when◌then◌else◌, at, rising, each}
 use Rattle.rules.specs.Ring.{is_round, recount}
 use Rattle.rules.specs.Start.{without}

@@ -1,6 +1,6 @@
 -- 01, "The port", 7: the moves that are tried from t1, in their order, and `improve`. No number is ever negative: what is taken away is
 -- compared first. Assumes nothing.
-use Rattle.std.specs.Prelude.{ℕ, zero, suc, ◌+◌, ◌-◌, Bool, true, false, not, ◌||◌, List, [], ◌∷◌, ◌++◌, ltb, eqb}
+use Rattle.std.specs.Prelude.{zero, suc, ◌+◌, ◌-◌, Bool, true, false, not, ◌||◌, List, [], ◌∷◌, ◌++◌, ltb, eqb}
 use Rattle.rules.specs.Words.{Stop, Time, Round, Legs}
 use Rattle.rules.specs.Lists.{when◌then◌else◌, each, keep, keep_while}
 use Rattle.rules.specs.Ring.{succ, pred, ahead, behind, beside, between}

@@ -1,8 +1,8 @@
 -- 01, "The port", 5, and "Sizes and numbers", the journal: what is journalled, and how it is taken back. Newest entry first. Assumes nothing.
-use Rattle.std.specs.Prelude.{ℕ, zero, suc, ◌+◌, ◌-◌, ◌*◌, Bool, true, false, ◌&&◌, List, [], ◌∷◌, leb, ltb, eqb, length, take, drop}
+use Rattle.std.specs.Prelude.{ℕ, zero, suc, ◌+◌, ◌-◌, ◌*◌, Bool, ◌&&◌, List, [], ◌∷◌, leb, ltb, eqb, length, take, drop}
 use Rattle.rules.specs.Words.{Place, Round}
 use Rattle.rules.specs.Lists.{when◌then◌else◌, at, rising, every}
-use Rattle.rules.specs.Rewrite.{reverse_at, rotate_at, swap_at, stretch, Stretch}
+use Rattle.rules.specs.Rewrite.{reverse_at, rotate_at, swap_at, stretch}
 
 -- "start and length, or start and three lengths, or two places"
 pub data Entry : Type 0 where

@@ -1,12 +1,12 @@
 -- 01, "The port", 11: kicks. n and the kind decide a kick's spans, so what it draws (`spans`) and what it does with that (`kicked`) are
 -- apart. Assumes nothing.
-use Rattle.std.specs.Prelude.{ℕ, zero, suc, ◌+◌, ◌-◌, ◌/◌, ◌%◌, min, Bool, true, false, List, [], ◌∷◌, ◌++◌, ltb, eqb, length, take, drop}
+use Rattle.std.specs.Prelude.{ℕ, zero, suc, ◌+◌, ◌-◌, ◌/◌, ◌%◌, min, List, [], ◌∷◌, ◌++◌, ltb, eqb, length, take, drop}
 use Rattle.rules.specs.Words.{Stop, Place, Time, Legs}
 use Rattle.rules.specs.Lists.{when◌then◌else◌, at}
-use Rattle.rules.specs.Draws.{Span, ◌to◌, Drawn, draws}
+use Rattle.rules.specs.Draws.{Span, ◌to◌, draws}
 use Rattle.rules.specs.Ring.{prev, turn, path_cost, recount}
 use Rattle.rules.specs.Queue.{push_all}
-use Rattle.rules.specs.Journal.{Track, Entry, rotation, swap, doing}
+use Rattle.rules.specs.Journal.{Track, rotation, swap, doing}
 use Rattle.rules.specs.State.{State}
 
 -- "Longest segment: the lesser of 200 and (n-1)/3"

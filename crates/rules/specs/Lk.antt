@@ -2,7 +2,7 @@
 use Rattle.std.specs.Prelude.{ℕ, zero, suc, ◌+◌, ◌-◌, Bool, true, false, not, ◌||◌, List, [], ◌∷◌, map, ltb, eqb, length, get_or}
 use Rattle.rules.specs.Words.{Stop, Time}
 use Rattle.rules.specs.Lists.{when◌then◌else◌, keep, keep_while}
-use Rattle.rules.specs.Ring.{Leg, leg, succ, ahead, behind}
+use Rattle.rules.specs.Ring.{leg, succ, ahead, behind}
 use Rattle.rules.specs.Journal.{Track}
 use Rattle.rules.specs.Moves.{two, flip}
 use Rattle.rules.specs.Plan.{Plan, leg_of, near_of}

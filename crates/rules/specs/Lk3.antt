@@ -1,8 +1,8 @@
 -- 01, "The port", 9: `lk3_from`, `lk3_level`, `lk3_level_dir`. Assumes nothing.
-use Rattle.std.specs.Prelude.{ℕ, zero, suc, ◌+◌, ◌-◌, Bool, true, false, not, ◌&&◌, ◌||◌, List, [], ◌∷◌, ltb, eqb, length, get_or}
+use Rattle.std.specs.Prelude.{ℕ, zero, suc, ◌-◌, Bool, true, false, not, ◌&&◌, ◌||◌, List, [], ◌∷◌, ltb, eqb, length, get_or}
 use Rattle.rules.specs.Words.{Stop, Time}
 use Rattle.rules.specs.Lists.{when◌then◌else◌, at, keep}
-use Rattle.rules.specs.Ring.{Leg, leg, succ, ahead}
+use Rattle.rules.specs.Ring.{leg, succ, ahead}
 use Rattle.rules.specs.Journal.{Track}
 use Rattle.rules.specs.Moves.{two, flips, segment, inner, seq3}
 use Rattle.rules.specs.Plan.{Plan, leg_of, near_of, alpha_of}

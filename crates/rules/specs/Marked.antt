@@ -1,16 +1,15 @@
 -- 01, "Marked cases": proved together, as one statement over one list. Assumes nothing.
-use Rattle.std.specs.Prelude.{ℕ, zero, suc, ◌+◌, ◌≡◌, refl, List, [], ◌∷◌, map, eqb, replicate}
-use Rattle.rules.specs.Words.{Round, Place, Legs, Stop}
-use Rattle.rules.specs.Lists.{when◌then◌else◌}
+use Rattle.std.specs.Prelude.{ℕ, ◌≡◌, refl, List, [], ◌∷◌, map, replicate}
+use Rattle.rules.specs.Words.{Round, Place}
 use Rattle.rules.specs.Draws.{moved}
 use Rattle.rules.specs.Rewrite.{rotate_at}
-use Rattle.rules.specs.Journal.{Track, reversing}
+use Rattle.rules.specs.Journal.{reversing}
 use Rattle.rules.specs.Queue.{push_all}
 use Rattle.rules.specs.Plan.{leg_in}
 use Rattle.rules.specs.Start.{start_round}
 use Rattle.rules.specs.Exact.{exact_round}
 use Rattle.rules.specs.Search.{margin}
-use Rattle.rules.specs.Sheets.{solve, Outcome}
+use Rattle.rules.specs.Sheets.{solve}
 use Rattle.rules.specs.Opened.{opened}
 
 -- "reverse places s..e" of a round

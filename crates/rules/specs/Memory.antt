@@ -1,10 +1,10 @@
 -- 01, "Sizes and numbers": the memory that a call is lent, what it stands for, and what it holds once a state is left in it. Assumes nothing.
-use Rattle.std.specs.Prelude.{ℕ, zero, suc, ◌-◌, ◌*◌, ◌/◌, ◌≡◌, Bool, true, false, List, [], ◌++◌, reverse, ltb, length, take}
+use Rattle.std.specs.Prelude.{ℕ, ◌-◌, ◌*◌, ◌/◌, ◌≡◌, List, [], ◌++◌, reverse, ltb, length, take}
 use Rattle.rules.specs.Words.{Stop, Place, Time, Round}
 use Rattle.rules.specs.Lists.{when◌then◌else◌, each}
 use Rattle.rules.specs.Ring.{places_of}
 use Rattle.rules.specs.Queue.{waiting, flags_of}
-use Rattle.rules.specs.Journal.{Track, words_of, track_of}
+use Rattle.rules.specs.Journal.{words_of, track_of}
 use Rattle.rules.specs.Plan.{Plan}
 use Rattle.rules.specs.State.{State}
 

@@ -1,9 +1,9 @@
 -- 01, "The port", 6: `flip`, `or_move`, `apply_seq3`. Assumes nothing.
-use Rattle.std.specs.Prelude.{ℕ, zero, suc, ◌+◌, ◌-◌, min, max, Bool, true, false, ◌&&◌, List, [], ◌∷◌, leb, eqb, length}
+use Rattle.std.specs.Prelude.{◌+◌, ◌-◌, min, max, Bool, ◌&&◌, leb, eqb, length}
 use Rattle.rules.specs.Words.{Stop, Place}
 use Rattle.rules.specs.Lists.{when◌then◌else◌}
 use Rattle.rules.specs.Ring.{place, succ, pred}
-use Rattle.rules.specs.Journal.{Track, Entry, rotation, doing, reversing}
+use Rattle.rules.specs.Journal.{Track, rotation, doing, reversing}
 
 -- `flip`, the 2-opt move: t1 t2 .. t4 t3 reverses t2..t4, t2 t1 .. t3 t4 reverses t1..t3
 unfoldable pub flip : Stop → Stop → Stop → Track → Track

@@ -1,11 +1,11 @@
 -- 01, "Answer numbers": what is checked of lent memory, in which order, and the number that is given. Assumes nothing.
-use Rattle.std.specs.Prelude.{ℕ, zero, suc, ◌+◌, ◌-◌, ◌*◌, ◌^◌, Bool, true, false, not, ◌&&◌, ◌||◌, List, [], ◌∷◌, ◌++◌, leb, ltb, eqb, length}
+use Rattle.std.specs.Prelude.{ℕ, ◌-◌, ◌*◌, ◌^◌, Bool, true, false, not, ◌&&◌, ◌||◌, List, [], ◌∷◌, ◌++◌, leb, ltb, eqb, length}
 use Rattle.rules.specs.Words.{Stop, Place, Round, Legs}
-use Rattle.rules.specs.Lists.{when◌then◌else◌, rising, once, same, every}
+use Rattle.rules.specs.Lists.{rising, once, same, every}
 use Rattle.rules.specs.Ring.{places_of, is_round, recount}
 use Rattle.rules.specs.Queue.{waiting, flags_of}
 use Rattle.rules.specs.Journal.{good_journal}
-use Rattle.rules.specs.Plan.{leg_in, leg_of, near_of, alpha_of}
+use Rattle.rules.specs.Plan.{leg_of, near_of, alpha_of}
 use Rattle.rules.specs.Memory.{Lent, Carried, room_in, plan_in}
 
 -- a test, and the number that is given where it fails

@@ -1,5 +1,5 @@
 -- 01, "The port", 4: the stops that wait. The first of the list is taken next. Assumes nothing.
-use Rattle.std.specs.Prelude.{ℕ, zero, suc, Bool, true, false, List, [], ◌∷◌, ◌++◌, map, take}
+use Rattle.std.specs.Prelude.{ℕ, List, [], ◌∷◌, ◌++◌, map, take}
 use Rattle.rules.specs.Words.{Stop}
 use Rattle.rules.specs.Lists.{when◌then◌else◌, has, rising}
 use Rattle.rules.specs.Ring.{turn}

@@ -1,6 +1,6 @@
 -- 01, "The port", 2 and 3, and the swap of 5: the three ways to rewrite a round. A rewriting works at the front of the ring as it is
 -- read from a place on. Assumes nothing.
-use Rattle.std.specs.Prelude.{ℕ, zero, suc, ◌+◌, ◌-◌, ◌*◌, List, [], ◌∷◌, ◌++◌, reverse, leb, ltb, length, take, drop, set}
+use Rattle.std.specs.Prelude.{ℕ, ◌+◌, ◌-◌, ◌*◌, List, ◌++◌, reverse, leb, ltb, length, take, drop, set}
 use Rattle.rules.specs.Words.{Stop, Place, Round}
 use Rattle.rules.specs.Lists.{when◌then◌else◌, at}
 use Rattle.rules.specs.Ring.{next, turn}

@@ -1,14 +1,13 @@
 -- 01, "The port", 14: `search_with_slack`, `restart_from`. Assumes nothing.
-use Rattle.std.specs.Prelude.{ℕ, zero, suc, ◌+◌, ◌-◌, ◌*◌, ◌/◌, max, Bool, true, false, ◌&&◌, List, [], ◌∷◌, leb, ltb, eqb}
+use Rattle.std.specs.Prelude.{ℕ, zero, suc, ◌+◌, ◌-◌, ◌*◌, ◌/◌, max, Bool, true, false, ◌&&◌, leb, ltb, eqb}
 use Rattle.rules.specs.Words.{Time, Round, Legs}
 use Rattle.rules.specs.Lists.{when◌then◌else◌}
 use Rattle.rules.specs.Draws.{moved, drawn}
 use Rattle.rules.specs.Ring.{recount}
-use Rattle.rules.specs.Journal.{Track}
 use Rattle.rules.specs.Plan.{Plan, leg_of}
 use Rattle.rules.specs.State.{State, commit, load, undo, activated}
-use Rattle.rules.specs.Descend.{Manner, kept, committed, Ran, descend}
-use Rattle.rules.specs.Kicks.{Kicked, Kick, kick, kicked_state}
+use Rattle.rules.specs.Descend.{kept, committed, descend}
+use Rattle.rules.specs.Kicks.{kick, kicked_state}
 use Rattle.rules.specs.Start.{start_round}
 
 -- "(time + 5n) divided by 10n, rounded down"

@@ -1,5 +1,5 @@
 -- 01, "Sheets": the input sheet, its checks, and the answer sheet. Assumes nothing.
-use Rattle.std.specs.Prelude.{ℕ, zero, suc, ◌+◌, ◌-◌, ◌*◌, ◌/◌, min, max, Bool, true, false, ◌&&◌, List, [], ◌∷◌, ◌++◌, map, leb, eqb, length, drop}
+use Rattle.std.specs.Prelude.{ℕ, zero, suc, ◌+◌, ◌-◌, ◌*◌, ◌/◌, min, max, ◌&&◌, List, [], ◌∷◌, ◌++◌, map, leb, eqb, length, drop}
 use Rattle.rules.specs.Words.{Stop, Time, Legs}
 use Rattle.rules.specs.Lists.{when◌then◌else◌, at, rising, each, every}
 use Rattle.rules.specs.Bits.{bits, field, fields, bits_of, bytes_of}

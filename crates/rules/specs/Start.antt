@@ -1,5 +1,5 @@
 -- 01, "The port", 12: the start round, which both of the source's functions give. Assumes nothing.
-use Rattle.std.specs.Prelude.{ℕ, zero, suc, ◌+◌, ◌-◌, Bool, true, false, not, List, [], ◌∷◌, ltb, eqb}
+use Rattle.std.specs.Prelude.{ℕ, zero, suc, ◌-◌, not, List, [], ◌∷◌, ltb, eqb}
 use Rattle.rules.specs.Words.{Stop, Time, Round, Legs}
 use Rattle.rules.specs.Lists.{when◌then◌else◌, rising, keep}
 

@@ -1,6 +1,6 @@
 -- 01, "The port", 8 and 9, what both Lin-Kernighan steps share. A trial that is given up leaves nothing behind: to roll back is to go on
 -- with the track as it was, and that the journal leads back there is a law. Assumes nothing.
-use Rattle.std.specs.Prelude.{ℕ, zero, suc, Bool, true, false, ◌&&◌, List, [], ◌∷◌, ◌++◌, ltb, eqb, take}
+use Rattle.std.specs.Prelude.{ℕ, Bool, true, false, ◌&&◌, List, [], ◌∷◌, ◌++◌, ltb, eqb, take}
 use Rattle.rules.specs.Words.{Stop}
 use Rattle.rules.specs.Ring.{Leg, leg}
 use Rattle.rules.specs.Journal.{Track}

@@ -1,6 +1,6 @@
 -- 01, "The port", 13: the words of the subset table. Row s is for a set of the stops 1 to m, stop k in it where bit k-1 of s is set.
 -- Assumes nothing.
-use Rattle.std.specs.Prelude.{ℕ, zero, suc, ◌+◌, ◌/◌, ◌%◌, ◌^◌, min, Bool, true, false, List, [], ◌∷◌, ◌++◌, map, eqb, length}
+use Rattle.std.specs.Prelude.{ℕ, zero, suc, ◌/◌, ◌%◌, ◌^◌, min, Bool, false, List, [], ◌∷◌, ◌++◌, map, eqb, length}
 use Rattle.rules.specs.Words.{Stop, Time, Legs}
 use Rattle.rules.specs.Lists.{when◌then◌else◌, rising, each, keep}
 use Rattle.rules.specs.Ring.{along}

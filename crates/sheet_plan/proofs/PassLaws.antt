@@ -1,6 +1,6 @@
 -- A sheet that is not refused: its search is not refused either, and gives the sheet's answer.
 use Prim.Native.Nat.{◌*◌, ◌-◌, ◌/◌, ◌≤◌, ℕ}
-use mathlib.Core.Path.{◌∙◌, ◌≡◌, refl, sym}
+use mathlib.Core.Path.{◌≡◌, refl, sym}
 use mathlib.Core.Bool.{Bool, ◌&&◌, false, true}
 use mathlib.Core.List.{List, [], ◌∷◌}
 use native.Mathlib.Omega.{arith}

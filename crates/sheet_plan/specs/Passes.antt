@@ -1,5 +1,5 @@
 -- What a sheet that is not refused gives a search. Assumes nothing.
-use Rattle.std.specs.Prelude.{ℕ, ◌*◌, ◌≤◌, ◌≡◌, ◌&&◌, true, List, leb, length}
+use Rattle.std.specs.Prelude.{◌*◌, ◌≤◌, ◌≡◌, ◌&&◌, true, List, leb, length}
 use Rattle.rules.specs.Words.{Stop, Time}
 use Rattle.rules.specs.Plan.{Plan, leg_in, list_in}
 use Rattle.rules.specs.Numbers.{good_sizes, good_step, good_list, symmetric}

@@ -5,7 +5,7 @@ use mathlib.Core.List.{List}
 use native.Mathlib.Omega.{arith}
 use lib.ListN.{length}
 use Rattle.rules.specs.Bits.{bits_of, field}
-use Rattle.rules.specs.Sheets.{Header, header_in}
+use Rattle.rules.specs.Sheets.{header_in}
 use Rattle.laws.proofs.BitLaws.{bits_of_are, field_lt, length_bits_of}
 use Rattle.bits.specs.Read.{Reads}
 use Rattle.bits.proofs.ReadLaws.{inside}

@@ -1,14 +1,14 @@
 -- The number of a sheet, from the tests in 01's order.
 use Prim.Native.Nat.{ℕ, zero, suc, ◌+◌, ◌*◌, ◌/◌, ◌≤◌, ◌<◌}
-use mathlib.Core.Path.{◌≡◌, refl, sym, ap, ◌∙◌}
+use mathlib.Core.Path.{◌≡◌, refl, sym, ◌∙◌}
 use mathlib.Core.Bool.{Bool, true, false, ◌&&◌}
 use mathlib.Core.List.{List, [], ◌∷◌}
 use native.Mathlib.Omega.{arith}
-use borrow.Author.Tests.{le-leb, lt-leb, leb-true, eqb-true}
+use borrow.Author.Tests.{le-leb, lt-leb, eqb-true}
 use lib.Dec.{leb, eqb}
 use lib.ListN.{length}
 use Rattle.rules.specs.Bits.{bits_of}
-use Rattle.rules.specs.Numbers.{Check, ◌or◌, verdict, within}
+use Rattle.rules.specs.Numbers.{◌or◌, verdict, within}
 use Rattle.rules.specs.Sheets.{Header, header_in, end_at, sheet_length, answer_length, sheet_checks}
 use Rattle.laws.proofs.ChoiceLaws.{and-true}
 use Rattle.sheets.specs.Sheet.{first_of, head_checks, good_told, good_end, good_lists, Narrow, Sizes, Ready}

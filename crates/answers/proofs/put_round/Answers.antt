@@ -1,7 +1,7 @@
-use Rattle.answers.proofs.PackLaws.{Packing, pack_start, pack_length, pack_turn, pack_last, pack_done}
-use lib.ListN.{length, get_or, length-set}
-use Prim.Native.Nat.{ℕ, ◌+◌, ◌-◌, ◌*◌, ◌≤◌, ◌<◌}
-use mathlib.Core.Path.{◌≡◌, refl, sym, ap, ◌∙◌, subst}
+use Rattle.answers.proofs.PackLaws.{pack_start, pack_length, pack_turn, pack_last, pack_done}
+use lib.ListN.{get_or}
+use Prim.Native.Nat.{◌+◌}
+use mathlib.Core.Path.{refl, ◌∙◌}
 use native.Mathlib.Omega.{arith}
 use Rattle.answers.proofs.put_round.Goals as goal
 

@@ -1,7 +1,5 @@
 use Rattle.answers.proofs.AnswerLaws.{answer_written}
-use mathlib.Core.Path.{◌≡◌, refl, sym, ap, ◌∙◌, subst}
 use native.Mathlib.Omega.{arith}
-use borrow.Author.Rules.{rules}
 use Rattle.answers.proofs.write_answer.Goals as goal
 
 pub returns : goal.returns

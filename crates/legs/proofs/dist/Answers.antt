@@ -1,4 +1,3 @@
-use Rattle.std.proofs.Common.{◌≡◌}
 use Rattle.rules.specs.Plan.{leg_in}
 use Rattle.legs.proofs.dist.Goals as goal
 

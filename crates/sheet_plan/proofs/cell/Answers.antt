@@ -1,8 +1,7 @@
 use Rattle.sheet_plan.specs.Load.{triangle_in}
 use Rattle.laws.proofs.TriangleLaws.{leg_same, leg_up, leg_down}
-use mathlib.Core.Path.{◌≡◌, refl, sym, ap, ◌∙◌, subst}
+use mathlib.Core.Path.{sym, ◌∙◌}
 use native.Mathlib.Omega.{arith}
-use borrow.Author.Rules.{rules}
 use Rattle.sheet_plan.proofs.cell.Goals as goal
 
 pub returns-then-a-b : goal.returns-then-a-b

@@ -1,5 +1,4 @@
 use Rattle.sheet_plan.proofs.LoadLaws.{leg_room, leg_is}
-use borrow.Author.Rules.{rules}
 use Rattle.sheet_plan.proofs.leg_at.Goals as goal
 
 pub read16-requires : goal.read16-requires

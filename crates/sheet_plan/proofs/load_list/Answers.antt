@@ -1,8 +1,5 @@
 use Rattle.rules.specs.Bits.{bits_of}
-use Rattle.sheet_plan.proofs.LoadLaws.{Listing, list_start, list_turn, list_done}
-use lib.ListN.{length}
-use Prim.Native.Nat.{ℕ, ◌+◌, ◌-◌, ◌*◌, ◌≤◌, ◌<◌}
-use mathlib.Core.Path.{◌≡◌, refl, sym, ap, ◌∙◌, subst}
+use Rattle.sheet_plan.proofs.LoadLaws.{list_start, list_turn, list_done}
 use native.Mathlib.Omega.{arith}
 use Rattle.sheet_plan.proofs.load_list.Goals as goal
 

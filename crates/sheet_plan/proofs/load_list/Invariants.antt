@@ -1,9 +1,7 @@
 use Rattle.rules.specs.Bits.{bits_of}
-use Rattle.sheet_plan.proofs.LoadLaws.{Listing, list_start, list_turn, list_done}
+use Rattle.sheet_plan.proofs.LoadLaws.{Listing}
 use lib.ListN.{length}
-use Prim.Native.Nat.{ℕ, ◌+◌, ◌-◌, ◌*◌, ◌≤◌, ◌<◌}
-use mathlib.Core.Path.{◌≡◌, refl, sym, ap, ◌∙◌, subst}
-use native.Mathlib.Omega.{arith}
+use Prim.Native.Nat.{◌-◌}
 use Rattle.sheet_plan.proofs.load_list.Given as goal
 
 abbrev pub invariant-loop-i : goal.invariant-loop-i

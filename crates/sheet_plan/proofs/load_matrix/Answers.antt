@@ -1,9 +1,8 @@
 use native.Mathlib.Nat.{mul-le-mul, add-mul, one-mul}
 use Rattle.rules.specs.Sheets.{triangle_leg}
-use Rattle.sheet_plan.specs.Load.{triangle_in, Filled}
+use Rattle.sheet_plan.specs.Load.{triangle_in}
 use Rattle.sheet_plan.proofs.LoadLaws.{fill_start, fill_row, fill_turn, fill_done}
-use Prim.Native.Nat.{ℕ, ◌+◌, ◌-◌, ◌*◌, ◌≤◌, ◌<◌}
-use mathlib.Core.Path.{◌≡◌, refl, sym, ap, ◌∙◌, subst}
+use mathlib.Core.Path.{sym, ◌∙◌}
 use native.Mathlib.Omega.{arith}
 use Rattle.sheet_plan.proofs.load_matrix.Goals as goal
 

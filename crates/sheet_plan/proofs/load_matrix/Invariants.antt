@@ -1,10 +1,7 @@
-use native.Mathlib.Nat.{mul-le-mul, add-mul, one-mul}
 use Rattle.rules.specs.Sheets.{triangle_leg}
 use Rattle.sheet_plan.specs.Load.{triangle_in, Filled}
-use Rattle.sheet_plan.proofs.LoadLaws.{fill_start, fill_row, fill_turn, fill_done}
-use Prim.Native.Nat.{ℕ, ◌+◌, ◌-◌, ◌*◌, ◌≤◌, ◌<◌}
-use mathlib.Core.Path.{◌≡◌, refl, sym, ap, ◌∙◌, subst}
-use native.Mathlib.Omega.{arith}
+use Prim.Native.Nat.{◌+◌, ◌-◌, ◌*◌, ◌<◌}
+use mathlib.Core.Path.{◌≡◌}
 use Rattle.sheet_plan.proofs.load_matrix.Given as goal
 
 abbrev pub invariant-loop-at : goal.invariant-loop-at

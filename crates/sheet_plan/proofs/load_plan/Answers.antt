@@ -1,10 +1,8 @@
 use Rattle.sheets.specs.Sheet.{header_of}
 use Rattle.sheet_plan.proofs.LoadLaws.{matrix_room, small, near_room, alpha_room, all_loaded}
 use lib.ListN.{length}
-use Prim.Native.Nat.{ℕ, ◌+◌, ◌-◌, ◌*◌, ◌≤◌, ◌<◌}
-use mathlib.Core.Path.{◌≡◌, refl, sym, ap, ◌∙◌, subst}
+use mathlib.Core.Path.{◌∙◌}
 use native.Mathlib.Omega.{arith}
-use borrow.Author.Rules.{rules}
 use Rattle.sheet_plan.proofs.load_plan.Goals as goal
 
 pub load_matrix-requires : goal.load_matrix-requires

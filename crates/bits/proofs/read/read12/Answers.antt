@@ -1,5 +1,4 @@
 use Rattle.bits.proofs.ReadLaws.{read_12_even, read_12_odd}
-use borrow.Author.Rules.{rules}
 use Rattle.bits.proofs.read.read12.Goals as goal
 
 pub returns-then-p-eq0 : goal.returns-then-p-eq0

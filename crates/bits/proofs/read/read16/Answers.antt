@@ -1,5 +1,4 @@
 use Rattle.bits.proofs.ReadLaws.{read_16}
-use borrow.Author.Rules.{rules}
 use Rattle.bits.proofs.read.read16.Goals as goal
 
 pub returns : goal.returns

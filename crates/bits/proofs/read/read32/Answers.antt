@@ -1,5 +1,4 @@
 use Rattle.bits.proofs.ReadLaws.{read_32}
-use borrow.Author.Rules.{rules}
 use Rattle.bits.proofs.read.read32.Goals as goal
 
 pub returns : goal.returns

@@ -1,5 +1,4 @@
 use Rattle.bits.proofs.ReadLaws.{read_64}
-use borrow.Author.Rules.{rules}
 use Rattle.bits.proofs.read.read64.Goals as goal
 
 pub returns : goal.returns

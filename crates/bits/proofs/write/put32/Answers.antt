@@ -1,5 +1,4 @@
 use Rattle.bits.proofs.WriteLaws.{put_32}
-use borrow.Author.Rules.{rules}
 use Rattle.bits.proofs.write.put32.Goals as goal
 
 pub returns : goal.returns

@@ -1,7 +1,6 @@
 use Rattle.bits.proofs.WriteLaws.{put_last}
-use lib.ListN.{length, get_or, length-set}
+use lib.ListN.{length-set}
 use native.Mathlib.Omega.{arith}
-use borrow.Author.Rules.{rules}
 use Rattle.bits.proofs.write.put_last.Goals as goal
 
 pub bounds-a-at-2 : goal.bounds-a-at-2

@@ -1,11 +1,9 @@
 use Prim.Native.Nat.{◌/◌}
-use lib.ListN.{get_or}
 use Rattle.sheets.proofs.EndLaws.{end_at_lem, end_bad, end_whole, end_spare}
 use Rattle.sheets.specs.Sheet.{header_of}
-use Prim.Native.Nat.{ℕ, ◌+◌, ◌-◌, ◌*◌, ◌≤◌, ◌<◌}
-use mathlib.Core.Path.{◌≡◌, refl, sym, ap, ◌∙◌, subst}
+use Prim.Native.Nat.{◌+◌, ◌-◌, ◌*◌}
+use mathlib.Core.Path.{refl}
 use native.Mathlib.Omega.{arith}
-use borrow.Author.Rules.{rules}
 use Rattle.sheets.proofs.ends.end_good.Goals as goal
 
 pub returns-then-s-len : goal.returns-then-s-len

@@ -1,6 +1,5 @@
 use mathlib.Core.Path.{sym}
 use Rattle.sheets.proofs.HeaderLaws.{read_head}
-use borrow.Author.Rules.{rules}
 use Rattle.sheets.proofs.header.read_header.Goals as goal
 
 pub returns : goal.returns

@@ -1,12 +1,7 @@
 use native.Mathlib.Nat.{mul-le-mul}
-use Rattle.sheets.proofs.ListLaws.{lists_left, lists_start, row_room, list_turn, list_bad, list_next, list_done}
-use Rattle.rules.specs.Bits.{fields, bits_of}
-use Rattle.rules.specs.Numbers.{good_list}
-use Rattle.rules.specs.Plan.{list_in}
-use lib.ListN.{drop}
-use Prim.Native.Nat.{ℕ, ◌+◌, ◌-◌, ◌*◌, ◌≤◌, ◌<◌}
-use mathlib.Core.Path.{◌≡◌, refl, sym, ap, ◌∙◌, subst}
-use borrow.Author.Rules.{rules}
+use Rattle.sheets.proofs.ListLaws.{lists_start, row_room, list_turn, list_bad, list_next, list_done}
+use Rattle.rules.specs.Bits.{bits_of}
+use mathlib.Core.Path.{sym, ◌∙◌}
 use native.Mathlib.Omega.{arith}
 use Rattle.sheets.proofs.lists.list_good.Goals as goal
 

@@ -1,13 +1,10 @@
-use native.Mathlib.Nat.{mul-le-mul}
-use Rattle.sheets.proofs.ListLaws.{lists_left, lists_start, row_room, list_turn, list_bad, list_next, list_done}
+use Rattle.sheets.proofs.ListLaws.{lists_left}
 use Rattle.rules.specs.Bits.{fields, bits_of}
 use Rattle.rules.specs.Numbers.{good_list}
 use Rattle.rules.specs.Plan.{list_in}
 use lib.ListN.{drop}
-use Prim.Native.Nat.{ℕ, ◌+◌, ◌-◌, ◌*◌, ◌≤◌, ◌<◌}
-use mathlib.Core.Path.{◌≡◌, refl, sym, ap, ◌∙◌, subst}
-use borrow.Author.Rules.{rules}
-use native.Mathlib.Omega.{arith}
+use Prim.Native.Nat.{◌+◌, ◌-◌, ◌*◌, ◌≤◌}
+use mathlib.Core.Path.{◌≡◌}
 use Rattle.sheets.proofs.lists.list_good.Given as goal
 
 abbrev pub invariant-loop-v : goal.invariant-loop-v

@@ -2,7 +2,6 @@ use mathlib.Core.Path.{◌∙◌, sym}
 use native.Mathlib.Omega.{arith}
 use Rattle.sheets.specs.Sheet.{header_of}
 use Rattle.sheets.proofs.ListLaws.{near_room, alpha_room, near_bad, alpha_decides}
-use borrow.Author.Rules.{rules}
 use Rattle.sheets.proofs.lists.lists_good.Goals as goal
 
 pub list_good-requires : goal.list_good-requires

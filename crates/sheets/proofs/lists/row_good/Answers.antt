@@ -1,10 +1,6 @@
 use Rattle.sheets.proofs.ListLaws.{row_start, row_big, row_self, row_turn, row_done}
-use Rattle.sheets.specs.Sheet.{good_row}
-use Rattle.rules.specs.Bits.{fields, bits_of}
-use lib.ListN.{drop}
-use Prim.Native.Nat.{ℕ, ◌+◌, ◌-◌, ◌*◌, ◌≤◌, ◌<◌}
-use mathlib.Core.Path.{◌≡◌, refl, sym, ap, ◌∙◌, subst}
-use borrow.Author.Rules.{rules}
+use Rattle.rules.specs.Bits.{bits_of}
+use mathlib.Core.Path.{sym, ◌∙◌}
 use native.Mathlib.Omega.{arith}
 use Rattle.sheets.proofs.lists.row_good.Goals as goal
 

@@ -1,11 +1,8 @@
-use Rattle.sheets.proofs.ListLaws.{row_start, row_big, row_self, row_turn, row_done}
 use Rattle.sheets.specs.Sheet.{good_row}
 use Rattle.rules.specs.Bits.{fields, bits_of}
 use lib.ListN.{drop}
-use Prim.Native.Nat.{ℕ, ◌+◌, ◌-◌, ◌*◌, ◌≤◌, ◌<◌}
-use mathlib.Core.Path.{◌≡◌, refl, sym, ap, ◌∙◌, subst}
-use borrow.Author.Rules.{rules}
-use native.Mathlib.Omega.{arith}
+use Prim.Native.Nat.{◌+◌, ◌-◌, ◌*◌, ◌≤◌}
+use mathlib.Core.Path.{◌≡◌}
 use Rattle.sheets.proofs.lists.row_good.Given as goal
 
 abbrev pub invariant-loop-j : goal.invariant-loop-j

@@ -1,8 +1,7 @@
-use mathlib.Core.Path.{◌∙◌, sym, ap}
+use mathlib.Core.Path.{◌∙◌, sym}
 use native.Mathlib.Omega.{arith}
 use Rattle.sheets.specs.Sheet.{header_of}
 use Rattle.sheets.proofs.NumberLaws.{number_short, number_head, narrow, number_next, sizes, end_room, number_room, number_lists, ready, next_is, lists_are}
-use borrow.Author.Rules.{rules}
 use Rattle.sheets.proofs.number.sheet_number.Goals as goal
 
 pub returns-then-s-lt16 : goal.returns-then-s-lt16

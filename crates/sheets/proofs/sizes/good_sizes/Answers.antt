@@ -1,5 +1,5 @@
 use Rattle.sheets.proofs.SizeLaws.{sizes_small, sizes_big, sizes_rest}
-use mathlib.Core.Path.{◌≡◌, refl, sym, ap, ◌∙◌, subst}
+use mathlib.Core.Path.{sym}
 use Rattle.sheets.proofs.sizes.good_sizes.Goals as goal
 
 pub returns-then-k-lt1 : goal.returns-then-k-lt1

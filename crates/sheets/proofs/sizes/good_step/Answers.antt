@@ -1,5 +1,5 @@
 use Rattle.sheets.proofs.SizeLaws.{step_big, step_none, step_rest}
-use mathlib.Core.Path.{◌≡◌, refl, sym, ap, ◌∙◌, subst}
+use mathlib.Core.Path.{sym}
 use Rattle.sheets.proofs.sizes.good_step.Goals as goal
 
 pub returns-then-step-gt2 : goal.returns-then-step-gt2

@@ -1,7 +1,6 @@
 use mathlib.Core.Path.{◌∙◌, sym}
 use Rattle.sheets.specs.Sheet.{header_of}
 use Rattle.sheets.proofs.SizeLaws.{told_sizes, told_step, told_seed}
-use borrow.Author.Rules.{rules}
 use Rattle.sheets.proofs.sizes.told_good.Goals as goal
 
 pub returns-then-good_step : goal.returns-then-good_step
