@@ -1,29 +1,26 @@
 -- A level's scan from where the code stands: a law for each way on.
-use Prim.Native.Nat.{ℕ, zero, suc, ◌+◌, ◌-◌, ◌≤◌, ◌<◌}
+use Prim.Native.Nat.{ℕ, ◌+◌, ◌-◌, ◌≤◌, ◌<◌}
 use mathlib.Core.Path.{◌≡◌, refl, sym, ap, subst, ◌∙◌}
-use mathlib.Core.Logic.{◌≢◌}
 use mathlib.Core.Bool.{Bool, true, false, not, ◌||◌}
 use mathlib.Core.List.{List, [], ◌∷◌}
 use native.Mathlib.Omega.{arith}
-use borrow.Author.Tests.{lt-ltb, le-ltb, leb-true, leb-false, eqb-false}
+use borrow.Author.Tests.{lt-ltb, le-ltb, leb-true, leb-false}
 use lib.Dec.{ltb, leb, eqb}
 use lib.ListN.{length, drop}
 use Rattle.rules.specs.Words.{Stop, Time, Round}
 use Rattle.rules.specs.Lists.{at}
 use Rattle.rules.specs.Ring.{Leg, leg, succ, ahead, behind}
 use Rattle.rules.specs.Moves.{two}
-use Rattle.rules.specs.Plan.{Plan, leg_in, list_in, leg_of, near_of}
+use Rattle.rules.specs.Plan.{leg_in, list_in, leg_of, near_of}
 use Rattle.rules.specs.Improve.{Trial, free3}
-use Rattle.rules.specs.Step.{Step, among, best}
+use Rattle.rules.specs.Step.{among, best}
 use Rattle.rules.specs.Lk.{cont_of, may_flip, conts}
-use Rattle.rules.specs.SharedWords.{Listed}
-use Rattle.laws.proofs.ChoiceLaws.{either, nor_true, or-false}
 use Rattle.improve.specs.Steps.{near_plan}
-use Rattle.lk_scans.specs.Picked.{step_in, conts_in, cont_is, trial_in, shown, shown_from, Fine, Fines, Falling, Placed}
+use Rattle.lk_scans.specs.Picked.{step_in, conts_in, cont_is, trial_in, shown, shown_from, Falling, Placed}
 use Rattle.lk_scans.specs.declared.Pick.{Pick}
 use Rattle.lk_scans.specs.declared.Picks.{Picks}
 use Rattle.laws.proofs.ContLaws.{rest, rest_all, rest_done, rest_stop, rest_skip, rest_bar, rest_may, first_free, not_first}
-use Rattle.lk_scans.proofs.ShownLaws.{shown_none, one_over, one_under}
+use Rattle.lk_scans.proofs.ShownLaws.{one_over, one_under}
 
 by : (b : Bool) (Q : Type 0) → (b ≡ true → Q) → (b ≡ false → Q) → Q
 by true Q f g = f refl

@@ -1,17 +1,16 @@
 -- 01, 8, "Breadth by level": the best continuations, kept in a struct whose partial gain is 0 where there is none.
-use Prim.Native.Nat.{ℕ, zero, suc, ◌+◌, ◌≤◌, ◌<◌}
+use Prim.Native.Nat.{ℕ, zero, suc, ◌≤◌, ◌<◌}
 use mathlib.Core.Path.{◌≡◌, refl, sym, ap, ◌∙◌}
 use mathlib.Core.Logic.{◌≢◌}
 use mathlib.Core.List.{List, [], ◌∷◌}
 use native.Mathlib.Omega.{arith}
 use borrow.Author.Tests.{lt-ltb, le-ltb}
-use lib.Dec.{ltb}
 use lib.ListN.{take, get_or}
 use Rattle.rules.specs.Improve.{Trial}
 use Rattle.rules.specs.Step.{best, insert}
 use Rattle.rules.specs.Lk.{breadth}
 use Rattle.laws.proofs.ChoiceLaws.{by_gain}
-use Rattle.lk_scans.specs.Picked.{shown, shown_from, trial_in, cont_is, Fine, Fines, Falling, Placed, IsAt}
+use Rattle.lk_scans.specs.Picked.{shown, shown_from, trial_in, cont_is, Placed, IsAt}
 use Rattle.lk_scans.specs.declared.Pick.{Pick}
 use Rattle.lk_scans.specs.declared.Picks.{Picks}
 

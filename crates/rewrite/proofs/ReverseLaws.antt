@@ -6,7 +6,6 @@ use native.Mathlib.Omega.{arith}
 use lib.ListN.{length, take, drop, length-append, take-append-drop}
 use lib.Seq.{get_or-append_seam, set-append_seam, append_snoc, length-take-le}
 use Rattle.rules.specs.Words.{Place, Round}
-use Rattle.rules.specs.Lists.{at}
 use Rattle.rules.specs.Ring.{next, prev, turn}
 use Rattle.rules.specs.Rewrite.{from, reverse_front, reverse_at, swap_at}
 use Rattle.laws.proofs.RewriteLaws.{swap_at_length}

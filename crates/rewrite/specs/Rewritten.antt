@@ -1,7 +1,7 @@
 -- What the rewritings of a round promise. Assumes nothing.
 use Rattle.std.specs.Prelude.{ℕ, ◌*◌, ◌≤◌, ◌<◌, ◌≡◌, List, length}
 use Rattle.rules.specs.Words.{Place, Round}
-use Rattle.rules.specs.Rewrite.{Stretch, stretch, reverse_at}
+use Rattle.rules.specs.Rewrite.{stretch}
 use Rattle.rules.specs.SharedWords.{Tied}
 
 -- the round is left as `goal`, and the places are its inverse

@@ -1,11 +1,9 @@
-use Prim.Native.Nat.{◌-◌, ◌+◌, ◌<◌, ◌≤◌}
+use Prim.Native.Nat.{◌<◌}
 use mathlib.Core.Path.{◌≡◌, refl, sym, ap, ◌∙◌}
-use mathlib.Core.List.{◌++◌}
 use native.Mathlib.Omega.{arith}
-use lib.ListN.{length, take, drop, length-set}
+use lib.ListN.{length, length-set}
 use Rattle.rules.specs.Lists.{at}
 use Rattle.rules.specs.Ring.{next, turn}
-use Rattle.ring.specs.Around.{around}
 use Rattle.ring.proofs.AroundLaws.{around_0, next_around}
 use Rattle.laws.proofs.TurnLaws.{turn_length}
 use Rattle.ring.proofs.TurnAtLaws.{at_turn}

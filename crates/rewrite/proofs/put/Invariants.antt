@@ -1,13 +1,8 @@
 use Prim.Native.Nat.{◌-◌, ◌<◌, ◌≤◌}
-use mathlib.Core.Path.{◌≡◌, refl, sym, ap, ◌∙◌}
-use native.Mathlib.Omega.{arith}
-use lib.ListN.{length, drop, length-set}
-use Rattle.rules.specs.Ring.{next}
+use mathlib.Core.Path.{◌≡◌}
+use lib.ListN.{length, drop}
 use Rattle.ring.specs.Around.{around}
-use Rattle.ring.proofs.AroundLaws.{around_0, next_around}
 use Rattle.rewrite.specs.Writes.{writes, placings}
-use Rattle.rewrite.proofs.WriteLaws.{writes_turn, placings_turn, writes_done, placings_done}
-use borrow.Author.Rules.{rules}
 use Rattle.rewrite.proofs.put.Given as goal
 
 abbrev pub invariant-loop-k : goal.invariant-loop-k

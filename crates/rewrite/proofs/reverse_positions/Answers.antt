@@ -2,10 +2,8 @@ use Prim.Native.Nat.{◌<◌}
 use mathlib.Core.Path.{◌≡◌, refl, sym, ap, ◌∙◌}
 use native.Mathlib.Omega.{arith}
 use lib.ListN.{length}
-use Rattle.rules.specs.Rewrite.{reverse_at}
-use Rattle.rules.specs.SharedWords.{Tied}
 use Rattle.laws.proofs.RewriteLaws.{reverse_at_short, swap_at_length}
-use Rattle.rewrite.proofs.ReverseLaws.{exchanges, exchanges_starts, exchanges_turn, exchanges_done}
+use Rattle.rewrite.proofs.ReverseLaws.{exchanges_starts, exchanges_turn, exchanges_done}
 use borrow.Author.Rules.{rules}
 use Rattle.rewrite.proofs.reverse_positions.Goals as goal
 

@@ -1,12 +1,9 @@
 use Prim.Native.Nat.{◌<◌}
-use mathlib.Core.Path.{◌≡◌, refl, sym, ap, ◌∙◌}
-use native.Mathlib.Omega.{arith}
+use mathlib.Core.Path.{◌≡◌}
 use lib.ListN.{length}
 use Rattle.rules.specs.Rewrite.{reverse_at}
 use Rattle.rules.specs.SharedWords.{Tied}
-use Rattle.laws.proofs.RewriteLaws.{reverse_at_short, swap_at_length}
-use Rattle.rewrite.proofs.ReverseLaws.{exchanges, exchanges_starts, exchanges_turn, exchanges_done}
-use borrow.Author.Rules.{rules}
+use Rattle.rewrite.proofs.ReverseLaws.{exchanges}
 use Rattle.rewrite.proofs.reverse_positions.Given as goal
 
 abbrev pub invariant-loop-left : goal.invariant-loop-left

@@ -6,7 +6,6 @@ use lib.Seq.{length-take-le}
 use Rattle.rules.specs.Ring.{turn}
 use Rattle.laws.proofs.TurnLaws.{turn_length}
 use Rattle.rewrite.proofs.RotateLaws.{put_ok, parts_of, rotate_done}
-use borrow.Author.Rules.{rules}
 use Rattle.rewrite.proofs.rotate_segments.Goals as goal
 
 pub put-i-requires : goal.put-i-requires
@@ -17,7 +16,6 @@ put-i-requires c =
     × (take (c.args.a + c.args.b - c.args.a) (drop c.args.a scratch) ≡ take c.args.b (drop c.args.a y))
     × (take c.args.a scratch ≡ take c.args.a y)) = parts_of c.args.a c.args.b c.args.c (turn c.args.start c.args.round.now) c.args.scratch.now c.gather.new.scratch
     (omega (arith, c.requires.c_in_bounds, turn_length c.args.start c.args.round.now)) c.gather.ensures in
-   
     let a = c.args in
     let q = parts in let all = put_ok a.start (a.a + a.b) a.c a.start a.round.now a.places.now a.round.now a.places.now _ c.requires.tied c.requires.start_in_bounds refl c.requires.tied.same c.requires.start_in_bounds q.0 c.requires.c_in_bounds in record { round_len_bound = all.0; start_in_bounds = all.1.0; part_in_bounds = all.1.1.0; stops = all.1.1.1 }
 
@@ -29,7 +27,6 @@ put-j-requires c =
     × (take (c.args.a + c.args.b - c.args.a) (drop c.args.a scratch) ≡ take c.args.b (drop c.args.a y))
     × (take c.args.a scratch ≡ take c.args.a y)) = parts_of c.args.a c.args.b c.args.c (turn c.args.start c.args.round.now) c.args.scratch.now c.gather.new.scratch
     (omega (arith, c.requires.c_in_bounds, turn_length c.args.start c.args.round.now)) c.gather.ensures in
-   
     let a = c.args in
     let q = parts in
     let p = c.put-i in let all = put_ok a.start a.a a.b p.result a.round.now a.places.now p.new.round p.new.places _ c.requires.tied c.requires.start_in_bounds p.auto.round (p.auto.places ∙ c.requires.tied.same) p.ensures.is.below q.1 (omega (arith, c.requires.c_in_bounds)) in record { round_len_bound = all.0; start_in_bounds = all.1.0; part_in_bounds = all.1.1.0; stops = all.1.1.1 }
@@ -42,7 +39,6 @@ slice_bounds-put-end-4 c =
     × (take (c.args.a + c.args.b - c.args.a) (drop c.args.a scratch) ≡ take c.args.b (drop c.args.a y))
     × (take c.args.a scratch ≡ take c.args.a y)) = parts_of c.args.a c.args.b c.args.c (turn c.args.start c.args.round.now) c.args.scratch.now c.gather.new.scratch
     (omega (arith, c.requires.c_in_bounds, turn_length c.args.start c.args.round.now)) c.gather.ensures in
-   
     let a = c.args in
     let q = parts in
     sym (ap length q.2 ∙ length-take-le a.a (turn a.start a.round.now) (omega (arith, turn_length a.start a.round.now, c.requires.c_in_bounds)))
@@ -55,7 +51,6 @@ put-requires c =
     × (take (c.args.a + c.args.b - c.args.a) (drop c.args.a scratch) ≡ take c.args.b (drop c.args.a y))
     × (take c.args.a scratch ≡ take c.args.a y)) = parts_of c.args.a c.args.b c.args.c (turn c.args.start c.args.round.now) c.args.scratch.now c.gather.new.scratch
     (omega (arith, c.requires.c_in_bounds, turn_length c.args.start c.args.round.now)) c.gather.ensures in
-   
     let a = c.args in
     let q = parts in
     let p = c.put-i in
@@ -70,7 +65,6 @@ returns c =
     × (take (c.args.a + c.args.b - c.args.a) (drop c.args.a scratch) ≡ take c.args.b (drop c.args.a y))
     × (take c.args.a scratch ≡ take c.args.a y)) = parts_of c.args.a c.args.b c.args.c (turn c.args.start c.args.round.now) c.args.scratch.now c.gather.new.scratch
     (omega (arith, c.requires.c_in_bounds, turn_length c.args.start c.args.round.now)) c.gather.ensures in
-   
     let a = c.args in
     let q = parts in
     let p = c.put-i in

@@ -4,7 +4,6 @@ use native.Mathlib.Omega.{arith}
 use lib.ListN.{length-set}
 use Rattle.rules.specs.Rewrite.{swap_at}
 use Rattle.laws.proofs.TiedLaws.{tied_swap}
-use borrow.Author.Rules.{rules}
 use Rattle.rewrite.proofs.swap_raw.Goals as goal
 
 pub offset_bounds-places-at_b : goal.offset_bounds-places-at_b

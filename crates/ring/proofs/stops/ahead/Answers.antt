@@ -1,5 +1,4 @@
 use Rattle.rules.specs.Ring.{ahead}
-use borrow.Author.Rules.{rules}
 use Rattle.ring.proofs.stops.ahead.Goals as goal
 
 pub returns-then-fwd : goal.returns-then-fwd

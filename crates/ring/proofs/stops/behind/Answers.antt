@@ -1,5 +1,4 @@
 use Rattle.rules.specs.Ring.{behind}
-use borrow.Author.Rules.{rules}
 use Rattle.ring.proofs.stops.behind.Goals as goal
 
 pub returns-then-fwd : goal.returns-then-fwd

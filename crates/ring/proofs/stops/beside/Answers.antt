@@ -1,5 +1,4 @@
 use Rattle.rules.specs.Ring.{beside}
-use borrow.Author.Rules.{rules}
 use Rattle.ring.proofs.stops.beside.Goals as goal
 
 pub returns-then-after : goal.returns-then-after

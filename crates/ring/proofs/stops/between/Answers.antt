@@ -1,5 +1,4 @@
 use Rattle.rules.specs.Ring.{between}
-use borrow.Author.Rules.{rules}
 use Rattle.ring.proofs.stops.between.Goals as goal
 
 pub returns : goal.returns

@@ -1,7 +1,6 @@
 use borrow.Author.Tests.{lt-ltb, le-ltb}
 use Rattle.rules.specs.Ring.{leg}
 use Rattle.ring.specs.Legs.{leg_word}
-use borrow.Author.Rules.{rules}
 use Rattle.ring.proofs.stops.edge.Goals as goal
 
 pub returns-then-a-b : goal.returns-then-a-b

@@ -1,7 +1,6 @@
 use mathlib.Core.Path.{sym, ap, ◌∙◌}
 use Rattle.rules.specs.Lists.{at}
 use Rattle.laws.proofs.TiedLaws.{place_tied}
-use borrow.Author.Rules.{rules}
 use Rattle.ring.proofs.stops.place_of.Goals as goal
 
 pub returns : goal.returns

@@ -5,7 +5,6 @@ use Prim.Native.Nat.{◌<◌}
 use Rattle.rules.specs.Lists.{at}
 use Rattle.rules.specs.Ring.{prev}
 use Rattle.laws.proofs.TiedLaws.{pred_tied}
-use borrow.Author.Rules.{rules}
 use Rattle.ring.proofs.stops.pred.Goals as goal
 
 pub prev-q-requires : goal.prev-q-requires

@@ -1,6 +1,5 @@
 use mathlib.Core.Path.{ap}
 use Rattle.rules.specs.Lists.{at}
-use borrow.Author.Rules.{rules}
 use Rattle.ring.proofs.stops.stop_at.Goals as goal
 
 pub returns : goal.returns

@@ -5,7 +5,6 @@ use Prim.Native.Nat.{◌<◌}
 use Rattle.rules.specs.Lists.{at}
 use Rattle.rules.specs.Ring.{next}
 use Rattle.laws.proofs.TiedLaws.{succ_tied}
-use borrow.Author.Rules.{rules}
 use Rattle.ring.proofs.stops.succ.Goals as goal
 
 pub next-q-requires : goal.next-q-requires

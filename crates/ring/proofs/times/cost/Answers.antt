@@ -1,11 +1,11 @@
-use Prim.Native.Nat.{ℕ, ◌+◌, ◌-◌, ◌*◌, ◌≤◌}
+use Prim.Native.Nat.{ℕ}
 use mathlib.Core.Path.{◌≡◌, ap, ◌∙◌}
 use native.Mathlib.Omega.{arith}
 use lib.ListN.{length}
 use Rattle.rules.specs.Lists.{at}
-use Rattle.rules.specs.Ring.{next, recount}
+use Rattle.rules.specs.Ring.{next}
 use Rattle.rules.specs.Plan.{leg_in}
-use Rattle.ring.proofs.CostLaws.{rest, closed, cost_starts, cost_turn, cost_done, cost_none}
+use Rattle.ring.proofs.CostLaws.{cost_starts, cost_turn, cost_done, cost_none}
 use borrow.Author.Rules.{rules}
 use Rattle.ring.proofs.times.cost.Goals as goal
 

@@ -1,12 +1,9 @@
-use Prim.Native.Nat.{ℕ, ◌+◌, ◌-◌, ◌*◌, ◌≤◌}
-use mathlib.Core.Path.{◌≡◌, ap, ◌∙◌}
-use native.Mathlib.Omega.{arith}
+use Prim.Native.Nat.{◌+◌, ◌-◌, ◌*◌, ◌≤◌}
+use mathlib.Core.Path.{◌≡◌}
 use lib.ListN.{length}
-use Rattle.rules.specs.Lists.{at}
-use Rattle.rules.specs.Ring.{next, recount}
+use Rattle.rules.specs.Ring.{recount}
 use Rattle.rules.specs.Plan.{leg_in}
-use Rattle.ring.proofs.CostLaws.{rest, closed, cost_starts, cost_turn, cost_done, cost_none}
-use borrow.Author.Rules.{rules}
+use Rattle.ring.proofs.CostLaws.{rest, closed}
 use Rattle.ring.proofs.times.cost.Given as goal
 
 abbrev pub invariant-loop-i : goal.invariant-loop-i

@@ -1,13 +1,13 @@
-use Prim.Native.Nat.{ℕ, ◌+◌, ◌-◌, ◌*◌, ◌<◌, ◌≤◌}
+use Prim.Native.Nat.{ℕ, ◌+◌}
 use mathlib.Core.Path.{◌≡◌, sym, ap, ◌∙◌}
 use native.Mathlib.Omega.{arith}
 use lib.ListN.{length}
 use Rattle.rules.specs.Lists.{at}
-use Rattle.rules.specs.Ring.{next, path_cost}
+use Rattle.rules.specs.Ring.{next}
 use Rattle.rules.specs.Plan.{leg_in}
 use Rattle.ring.specs.Around.{around}
 use Rattle.ring.proofs.AroundLaws.{around_0, next_around}
-use Rattle.ring.proofs.CostLaws.{rest, part, path_starts, path_turn, path_done}
+use Rattle.ring.proofs.CostLaws.{path_starts, path_turn, path_done}
 use borrow.Author.Rules.{rules}
 use Rattle.ring.proofs.times.path_cost.Goals as goal
 

@@ -1,14 +1,10 @@
-use Prim.Native.Nat.{ℕ, ◌+◌, ◌-◌, ◌*◌, ◌<◌, ◌≤◌}
-use mathlib.Core.Path.{◌≡◌, sym, ap, ◌∙◌}
-use native.Mathlib.Omega.{arith}
+use Prim.Native.Nat.{◌+◌, ◌-◌, ◌*◌, ◌<◌, ◌≤◌}
+use mathlib.Core.Path.{◌≡◌}
 use lib.ListN.{length}
-use Rattle.rules.specs.Lists.{at}
-use Rattle.rules.specs.Ring.{next, path_cost}
+use Rattle.rules.specs.Ring.{path_cost}
 use Rattle.rules.specs.Plan.{leg_in}
 use Rattle.ring.specs.Around.{around}
-use Rattle.ring.proofs.AroundLaws.{around_0, next_around}
-use Rattle.ring.proofs.CostLaws.{rest, part, path_starts, path_turn, path_done}
-use borrow.Author.Rules.{rules}
+use Rattle.ring.proofs.CostLaws.{rest, part}
 use Rattle.ring.proofs.times.path_cost.Given as goal
 
 abbrev pub invariant-loop-i : goal.invariant-loop-i
