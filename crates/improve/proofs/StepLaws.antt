@@ -7,7 +7,7 @@ use mathlib.Core.List.{List, [], ◌∷◌}
 use native.Mathlib.Omega.{arith}
 use lib.ListN.{length}
 use Rattle.rules.specs.Words.{Stop, Place, Time, Round}
-use Rattle.rules.specs.Journal.{Track, track_of, entries_of, good_journal}
+use Rattle.rules.specs.Journal.{Track, track_of, good_journal}
 use Rattle.rules.specs.Queue.{push_all, waiting}
 use Rattle.rules.specs.Improve.{ends_of, Found, nothing, or_else}
 use Rattle.rules.specs.SharedWords.{Tied, Square, Listed}

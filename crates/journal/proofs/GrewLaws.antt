@@ -5,7 +5,7 @@ use mathlib.Core.List.{List, [], ◌∷◌, ◌++◌, append_assoc, append-nil, 
 use native.Mathlib.Omega.{arith}
 use native.Mathlib.Nat.{add-zero}
 use lib.ListN.{length, take, length-append, length-take, length-reverse}
-use lib.Seq.{take-nil, take-take, take_at, take-append-add, take-append_seam, length-take-le}
+use lib.Seq.{take-nil, take-take, take-append-add, take-append_seam, length-take-le}
 use Rattle.rules.specs.Lists.{each}
 use Rattle.rules.specs.Journal.{Entry, words_of, entries_of}
 use Rattle.laws.proofs.JournalWordLaws.{length_words}

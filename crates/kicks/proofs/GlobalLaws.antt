@@ -8,7 +8,6 @@ use native.Mathlib.Decide.{dec_lt}
 use lib.ListN.{length}
 use borrow.Author.Tests.{lt-ltb, le-ltb}
 use Rattle.rules.specs.Words.{Legs}
-use Rattle.rules.specs.Lists.{at}
 use Rattle.rules.specs.Draws.{Span, ◌to◌, Drawn, draws}
 use Rattle.rules.specs.Journal.{Track, doing, carry_out}
 use Rattle.rules.specs.Kicks.{Kicked, Kick, shuffle_spans, global_spans, bridge_kick, global_kick, and_then}

@@ -1,21 +1,19 @@
 -- 01, 8, "Keeps the best closed gain and rolls back to it": a walk's end, the continuations of the first level, and both sides of t1.
-use Prim.Native.Nat.{ℕ, zero, suc, ◌+◌, ◌-◌, ◌*◌, ◌≤◌, ◌<◌}
+use Prim.Native.Nat.{ℕ, suc, ◌+◌, ◌*◌, ◌≤◌, ◌<◌}
 use mathlib.Core.Path.{◌≡◌, refl, sym, ap, subst, ◌∙◌}
 use mathlib.Core.Bool.{Bool, true, false}
 use mathlib.Core.List.{List, [], ◌∷◌}
 use native.Mathlib.Omega.{arith}
 use borrow.Author.Tests.{lt-ltb, le-ltb}
-use lib.Dec.{ltb, eqb}
 use lib.ListN.{length}
 use Rattle.rules.specs.Words.{Stop, Place, Time, Round}
-use Rattle.rules.specs.Ring.{leg, succ, ahead}
-use Rattle.rules.specs.Journal.{Track, track_of, rollback, good_journal}
+use Rattle.rules.specs.Ring.{leg, ahead}
+use Rattle.rules.specs.Journal.{Track, track_of}
 use Rattle.rules.specs.Queue.{push_all, waiting}
 use Rattle.rules.specs.Plan.{Plan, leg_in, leg_of, near_of}
 use Rattle.rules.specs.Improve.{Trial, Found, nothing, or_else}
-use Rattle.rules.specs.Step.{Step, begin, best}
-use Rattle.rules.specs.Lk.{Best, better, breadth, flipped, deepen, try_each, conts, cont_of, may_flip, lk_side, lk_from}
-use Rattle.rules.specs.SharedWords.{Tied}
+use Rattle.rules.specs.Step.{begin, best}
+use Rattle.rules.specs.Lk.{Best, breadth, deepen, try_each, conts, cont_of, may_flip, lk_side, lk_from}
 use Rattle.laws.proofs.ChoiceLaws.{by_gain}
 use Rattle.laws.proofs.JournalLaws.{entries_of_length}
 use Rattle.journal.specs.Journalled.{Journalled, Grew, Back}
@@ -23,9 +21,9 @@ use Rattle.journal.proofs.GrewLaws.{grew_grew, grew_back}
 use Rattle.queue.specs.Lines.{InLine, Waits}
 use Rattle.moves.specs.Moves.{Made}
 use Rattle.improve.specs.Steps.{plan_of, near_plan, Stepped}
-use Rattle.improve.proofs.StepLaws.{stepped_none, stepped_some}
+use Rattle.improve.proofs.StepLaws.{stepped_some}
 use Rattle.lk_state.specs.Stacks.{stops_in}
-use Rattle.lk_scans.specs.Picked.{step_in, conts_in, cont_is, trial_in, shown, shown_from, Firsts, IsAt}
+use Rattle.lk_scans.specs.Picked.{step_in, conts_in, cont_is, trial_in, shown_from, Firsts, IsAt}
 use Rattle.lk_scans.specs.declared.Pick.{Pick}
 use Rattle.lk_scans.specs.declared.Picks.{Picks}
 use Rattle.lk_scans.proofs.ShownLaws.{shown_none, shown_some}

@@ -1,9 +1,8 @@
 -- A walk down the levels: what the state, the mark and the journal stand for, and that what is left to do leads to the goal.
-use Prim.Native.Nat.{ℕ, zero, suc, ◌+◌, ◌-◌, ◌*◌, ◌≤◌, ◌<◌}
+use Prim.Native.Nat.{ℕ, suc, ◌+◌, ◌-◌, ◌*◌, ◌≤◌, ◌<◌}
 use mathlib.Core.Path.{◌≡◌, refl, sym, ap, subst, ◌∙◌}
-use mathlib.Core.Bool.{Bool, true, false}
-use mathlib.Core.Logic.{◌⊎◌, inl, inr, ⊎_elim}
-use mathlib.Core.List.{List, [], ◌∷◌, ◌++◌}
+use mathlib.Core.Bool.{Bool, true}
+use mathlib.Core.List.{List, [], ◌∷◌}
 use native.Mathlib.Omega.{arith}
 use borrow.Author.Tests.{ltb-true, ltb-false}
 use lib.Dec.{ltb, eqb}
@@ -19,10 +18,10 @@ use Rattle.rules.specs.Lk.{Best, better, flipped, deepen, conts, cont_of, may_fl
 use Rattle.rules.specs.SharedWords.{Tied, Square, Listed}
 use Rattle.scans.specs.Scans.{Ready}
 use Rattle.laws.proofs.ChoiceLaws.{either_if}
-use Rattle.laws.proofs.JournalLaws.{Past, past_length, past_deeper, past_rollback, rollback_done, entries_of_length}
+use Rattle.laws.proofs.JournalLaws.{Past, past_length, past_deeper, rollback_done, entries_of_length}
 use Rattle.laws.proofs.SinceLaws.{since_flip}
 use Rattle.laws.proofs.TiedLaws.{tied_perm}
-use Rattle.journal.specs.Journalled.{Journalled, Grew}
+use Rattle.journal.specs.Journalled.{Grew}
 use Rattle.journal.proofs.GrewLaws.{grew_self, grew_grew}
 use Rattle.moves.specs.Moves.{Made}
 use Rattle.improve.specs.Steps.{plan_of, near_plan}
@@ -30,7 +29,7 @@ use Rattle.lk_state.specs.Stacks.{legs_in, stops_in, Stepping}
 use Rattle.lk_state.specs.States.{step_of, Roomy, Begun}
 use Rattle.lk_state.specs.declared.LkState.{LkState}
 use Rattle.lk_state.proofs.StackLaws.{stepping_less}
-use Rattle.lk_scans.specs.Picked.{step_in, conts_in, cont_is, shown, Picked, Fine}
+use Rattle.lk_scans.specs.Picked.{step_in, conts_in, cont_is, shown, Fine}
 use Rattle.lk.specs.Walks.{led, step_at, best_at, Closed, Leveled, Walked}
 use Rattle.lk.proofs.NoteLaws.{Noted}
 use Rattle.lk.proofs.OnLaws.{onward, onward_none, onward_some, level_on}

@@ -1,5 +1,5 @@
 -- What the levels of `lk_deepen` lead to, and what its parts promise. Assumes nothing.
-use Rattle.std.specs.Prelude.{ℕ, zero, suc, ◌+◌, ◌-◌, ◌*◌, ◌≤◌, ◌<◌, ◌≡◌, true, List, [], ◌∷◌, length}
+use Rattle.std.specs.Prelude.{ℕ, zero, suc, ◌+◌, ◌-◌, ◌≤◌, ◌<◌, ◌≡◌, true, List, [], ◌∷◌, length}
 use Rattle.rules.specs.Words.{Stop, Place, Time, Round}
 use Rattle.rules.specs.Journal.{Track, track_of, rollback, good_journal}
 use Rattle.rules.specs.Plan.{Plan, leg_of}

@@ -1,5 +1,5 @@
 -- What the state stands for. Assumes nothing.
-use Rattle.std.specs.Prelude.{ℕ, ◌≡◌, length}
+use Rattle.std.specs.Prelude.{◌≡◌, length}
 use Rattle.rules.specs.Words.{Stop}
 use Rattle.rules.specs.Journal.{Track}
 use Rattle.rules.specs.Step.{Step, begin}

@@ -1,10 +1,10 @@
 -- 01, 6: an or-move is the exchange of its cuts in rising order.
-use Prim.Native.Nat.{ℕ, ◌-◌}
+use Prim.Native.Nat.{ℕ}
 use mathlib.Core.Path.{◌≡◌, refl, ◌∙◌}
 use mathlib.Core.Bool.{Bool}
 use lib.ListN.{length}
 use Rattle.rules.specs.Words.{Stop, Place, Round}
-use Rattle.rules.specs.Moves.{exchange, or_move}
+use Rattle.rules.specs.Moves.{or_move}
 use Rattle.moves.specs.Cuts.{cut_of, Rising, IsWindow, IsOrMove}
 
 pub cuts_exchange : (fwd : Bool) (r : Round) (x1 y1 x2 y2 x3 y3 : Stop) {p q s a b c start : Place} {first last : ℕ}

@@ -4,7 +4,6 @@ use mathlib.Core.Path.{◌≡◌, ap, ◌∙◌}
 use native.Mathlib.Omega.{arith}
 use Rattle.rules.specs.Lists.{at}
 use Rattle.checks.proofs.EntryLaws.{start_beyond, test_reversal, test_rotation, test_swap, test_none}
-use borrow.Author.Rules.{rules}
 use Rattle.checks.proofs.entry_good.Goals as goal
 
 pub returns-then-n-start : goal.returns-then-n-start

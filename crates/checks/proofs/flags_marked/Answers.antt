@@ -1,9 +1,5 @@
-use Prim.Native.Nat.{ℕ, ◌-◌, ◌≤◌, ◌<◌}
-use mathlib.Core.Path.{◌≡◌}
 use native.Mathlib.Omega.{arith}
 use borrow.Author.Count.{below_more}
-use lib.ListN.{length}
-use Rattle.rules.specs.Lists.{at}
 use Rattle.checks.proofs.MarkLaws.{front_same, front_differs}
 use borrow.Author.Rules.{rules}
 use Rattle.checks.proofs.flags_marked.Goals as goal

@@ -1,11 +1,7 @@
 use Prim.Native.Nat.{ℕ, ◌-◌, ◌≤◌, ◌<◌}
 use mathlib.Core.Path.{◌≡◌}
-use native.Mathlib.Omega.{arith}
-use borrow.Author.Count.{below_more}
 use lib.ListN.{length}
 use Rattle.rules.specs.Lists.{at}
-use Rattle.checks.proofs.MarkLaws.{front_same, front_differs}
-use borrow.Author.Rules.{rules}
 use Rattle.checks.proofs.flags_marked.Given as goal
 
 abbrev pub invariant-loop-i : goal.invariant-loop-i

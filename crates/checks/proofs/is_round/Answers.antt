@@ -2,7 +2,6 @@ use Prim.Native.Nat.{ℕ}
 use native.Mathlib.Omega.{arith}
 use lib.ListN.{length, length-replicate}
 use Rattle.checks.proofs.MarkLaws.{clear_marks, whole_round}
-use borrow.Author.Rules.{rules}
 use Rattle.checks.proofs.is_round.Goals as goal
 
 pub mark_waiting-requires : goal.mark_waiting-requires

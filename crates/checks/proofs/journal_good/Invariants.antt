@@ -1,12 +1,8 @@
 use Prim.Native.Nat.{ℕ, ◌-◌, ◌*◌, ◌≤◌, ◌<◌}
-use mathlib.Core.Path.{◌≡◌, sym, ◌∙◌}
-use mathlib.Core.Bool.{true, false}
-use native.Mathlib.Omega.{arith}
-use borrow.Author.Count.{below_more}
+use mathlib.Core.Path.{◌≡◌}
+use mathlib.Core.Bool.{true}
 use lib.ListN.{length}
-use Rattle.laws.proofs.ChoiceLaws.{true_false, not_so}
-use Rattle.laws.proofs.JournalWordLaws.{good_entry, good_room, good_each, good_all}
-use borrow.Author.Rules.{rules}
+use Rattle.laws.proofs.JournalWordLaws.{good_entry}
 use Rattle.checks.proofs.journal_good.Given as goal
 
 abbrev pub invariant-loop-i : goal.invariant-loop-i

@@ -2,7 +2,6 @@ use mathlib.Core.Path.{◌∙◌}
 use native.Mathlib.Omega.{arith}
 use lib.ListN.{length}
 use Rattle.checks.proofs.MarkLaws.{head_beyond, count_beyond, unmarked, marked}
-use borrow.Author.Rules.{rules}
 use Rattle.checks.proofs.line_good.Goals as goal
 
 pub returns-then-queue-head : goal.returns-then-queue-head

@@ -1,15 +1,14 @@
-use Prim.Native.Nat.{◌-◌, ◌≤◌, ◌<◌}
+use Prim.Native.Nat.{◌≤◌, ◌<◌}
 use mathlib.Core.Path.{◌≡◌, refl, sym, ap, ◌∙◌}
 use native.Mathlib.Omega.{arith}
 use lib.ListN.{length, length-set}
 use Rattle.rules.specs.Lists.{at}
 use Rattle.rules.specs.Ring.{next}
 use Rattle.rules.specs.Queue.{waiting}
-use Rattle.ring.specs.Around.{around}
 use Rattle.ring.proofs.AroundLaws.{around_0, next_around}
 use Rattle.laws.proofs.WaitLaws.{waiting_length}
 use Rattle.queue.proofs.LineLaws.{at_waiting}
-use Rattle.checks.proofs.MarkLaws.{Marking, marking_starts, marking_turn, marking_beyond, marking_twice, marking_done}
+use Rattle.checks.proofs.MarkLaws.{marking_starts, marking_turn, marking_beyond, marking_twice, marking_done}
 use borrow.Author.Rules.{rules}
 use Rattle.checks.proofs.mark_waiting.Goals as goal
 
@@ -22,7 +21,6 @@ pub returns-then-n-v : goal.returns-then-n-v
 returns-then-n-v c =
     let here : (c.wide-v.result ≡ at (waiting c.args.queue.now c.args.head c.args.count) c.loop-i.i) = let lp = c.loop-i in
     c.wide-v.ensures ∙ ap (at c.args.queue.now) lp.invariant.1.1.1.0 ∙ sym (at_waiting c.args.queue.now c.args.head c.args.count lp.i c.requires.head_in_bounds c.requires.count_in_bounds c.loop-i-test.true) in
-   
     let a = c.args in
     let q = waiting a.queue.now a.head a.count in
     let l : c.loop-i.i < length q = omega (arith, c.loop-i-test.true, waiting_length a.queue.now a.head a.count c.requires.count_in_bounds) in
@@ -32,7 +30,6 @@ pub returns-then-marks-v-ne0 : goal.returns-then-marks-v-ne0
 returns-then-marks-v-ne0 c =
     let here : (c.wide-v.result ≡ at (waiting c.args.queue.now c.args.head c.args.count) c.loop-i.i) = let lp = c.loop-i in
     c.wide-v.ensures ∙ ap (at c.args.queue.now) lp.invariant.1.1.1.0 ∙ sym (at_waiting c.args.queue.now c.args.head c.args.count lp.i c.requires.head_in_bounds c.requires.count_in_bounds c.loop-i-test.true) in
-   
     let a = c.args in
     let q = waiting a.queue.now a.head a.count in
     let l : c.loop-i.i < length q = omega (arith, c.loop-i-test.true, waiting_length a.queue.now a.head a.count c.requires.count_in_bounds) in
@@ -43,7 +40,6 @@ pub loop-i-preserved : goal.loop-i-preserved
 loop-i-preserved c =
     let here : (c.wide-v.result ≡ at (waiting c.args.queue.now c.args.head c.args.count) c.loop-i.i) = let lp = c.loop-i in
     c.wide-v.ensures ∙ ap (at c.args.queue.now) lp.invariant.1.1.1.0 ∙ sym (at_waiting c.args.queue.now c.args.head c.args.count lp.i c.requires.head_in_bounds c.requires.count_in_bounds c.loop-i-test.true) in
-   
     let a = c.args in
     let lp = c.loop-i in
     let n = length a.queue.now in

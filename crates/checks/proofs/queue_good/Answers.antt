@@ -2,7 +2,6 @@ use Prim.Native.Nat.{ℕ}
 use native.Mathlib.Omega.{arith}
 use lib.ListN.{length, length-replicate}
 use Rattle.checks.proofs.MarkLaws.{clear_marks}
-use borrow.Author.Rules.{rules}
 use Rattle.checks.proofs.queue_good.Goals as goal
 
 pub line_good-requires : goal.line_good-requires

@@ -1,10 +1,8 @@
-use Prim.Native.Nat.{ℕ, ◌-◌, ◌≤◌, ◌<◌}
 use mathlib.Core.Path.{sym, ap, ◌∙◌}
 use native.Mathlib.Omega.{arith}
 use borrow.Author.Count.{below_more}
-use lib.ListN.{length}
 use Rattle.rules.specs.Lists.{at}
-use Rattle.checks.proofs.RoundLaws.{Both, all_pass, one_fails}
+use Rattle.checks.proofs.RoundLaws.{all_pass, one_fails}
 use borrow.Author.Rules.{rules}
 use Rattle.checks.proofs.round_good.Goals as goal
 
@@ -28,16 +26,15 @@ returns-then-wide-i-2 c =
     one_fails c.args.round.now c.args.places.now c.requires.round_len_bound c.requires.places_len (λ t. c.if-wide-i-2.true (c.wide-in-loop-i.ensures ∙ ap (at c.args.round.now) c.wide-p.ensures ∙ t.forth c.loop-i.i c.loop-i-test.true))
 
 pub loop-i-preserved : goal.loop-i-preserved
-loop-i-preserved c =
-    (
-      search rules,
-      below_more _ _ c.loop-i.invariant.1 (record {
-        stop = omega (arith, c.wide-v.ensures, c.if-n-v.false);
-        place = omega (arith, c.wide-p.ensures, c.if-n-p.false);
-        back = sym (c.wide.ensures ∙ ap (at c.args.places.now) c.wide-v.ensures) ∙ c.if-wide-i.false;
-        forth = sym (c.wide-in-loop-i.ensures ∙ ap (at c.args.round.now) c.wide-p.ensures) ∙ c.if-wide-i-2.false;
-      }),
-    )
+loop-i-preserved c = (
+  search rules,
+  below_more _ _ c.loop-i.invariant.1 (record {
+    stop = omega (arith, c.wide-v.ensures, c.if-n-v.false);
+    place = omega (arith, c.wide-p.ensures, c.if-n-p.false);
+    back = sym (c.wide.ensures ∙ ap (at c.args.places.now) c.wide-v.ensures) ∙ c.if-wide-i.false;
+    forth = sym (c.wide-in-loop-i.ensures ∙ ap (at c.args.round.now) c.wide-p.ensures) ∙ c.if-wide-i-2.false;
+  }),
+)
 
 pub returns : goal.returns
 returns c =

@@ -1,11 +1,6 @@
 use Prim.Native.Nat.{ℕ, ◌-◌, ◌≤◌, ◌<◌}
-use mathlib.Core.Path.{sym, ap, ◌∙◌}
-use native.Mathlib.Omega.{arith}
-use borrow.Author.Count.{below_more}
 use lib.ListN.{length}
-use Rattle.rules.specs.Lists.{at}
-use Rattle.checks.proofs.RoundLaws.{Both, all_pass, one_fails}
-use borrow.Author.Rules.{rules}
+use Rattle.checks.proofs.RoundLaws.{Both}
 use Rattle.checks.proofs.round_good.Given as goal
 
 abbrev pub invariant-loop-i : goal.invariant-loop-i

@@ -2,7 +2,6 @@ use native.Mathlib.Omega.{arith}
 use Rattle.rules.specs.Journal.{track_of}
 use Rattle.improve.proofs.ImproveLaws.{improve_none, improve_some}
 use Rattle.improve.proofs.StepLaws.{stepped_none, stepped_some}
-use borrow.Author.Rules.{rules}
 use Rattle.improve.proofs.improve.Goals as goal
 
 pub find_move-mv-requires : goal.find_move-mv-requires

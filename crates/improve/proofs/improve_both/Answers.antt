@@ -9,7 +9,6 @@ use Rattle.laws.proofs.StayLaws.{improve_stays}
 use Rattle.improve.specs.Steps.{plan_of, near_plan}
 use Rattle.improve.proofs.ImproveLaws.{improve_any, both_is}
 use Rattle.improve.proofs.StepLaws.{stepped_is, stepped_first, stepped_else, still_ready, still_journalled}
-use borrow.Author.Rules.{rules}
 use Rattle.improve.proofs.improve_both.Goals as goal
 
 pub returns-then-a-gt0 : goal.returns-then-a-gt0

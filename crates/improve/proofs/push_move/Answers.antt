@@ -4,7 +4,6 @@ use native.Mathlib.Omega.{arith}
 use Rattle.rules.specs.Words.{Stop}
 use Rattle.rules.specs.Queue.{push_all, waiting}
 use Rattle.improve.proofs.StepLaws.{pushed, waits_is, ends_two, ends_three}
-use borrow.Author.Rules.{rules}
 use Rattle.improve.proofs.push_move.Goals as goal
 
 pub push_two-a-requires : goal.push_two-a-requires

@@ -3,7 +3,6 @@ use mathlib.Core.List.{List}
 use native.Mathlib.Omega.{arith}
 use Rattle.rules.specs.Words.{Stop}
 use Rattle.rules.specs.Queue.{push as pushOf, push_all}
-use borrow.Author.Rules.{rules}
 use Rattle.improve.proofs.push_two.Goals as goal
 
 pub push-l-requires : goal.push-l-requires

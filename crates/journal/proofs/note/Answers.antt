@@ -3,7 +3,6 @@ use mathlib.Core.Path.{◌≡◌, refl}
 use native.Mathlib.Omega.{arith}
 use lib.ListN.{length-set}
 use Rattle.journal.proofs.MoveLaws.{note_words}
-use borrow.Author.Rules.{rules}
 use Rattle.journal.proofs.note.Goals as goal
 
 pub bounds-journal-p-2 : goal.bounds-journal-p-2

@@ -9,7 +9,6 @@ use Rattle.laws.proofs.RangeLaws.{in_reversal}
 use Rattle.laws.proofs.RewriteLaws.{reverse_at_short}
 use Rattle.laws.proofs.StretchLaws.{reversing_short, reversing_long}
 use Rattle.journal.proofs.MoveLaws.{moved_one, moved_none}
-use borrow.Author.Rules.{rules}
 use Rattle.journal.proofs.reverse.Goals as goal
 
 pub returns-then-len-lt2 : goal.returns-then-len-lt2

@@ -1,13 +1,8 @@
-use Prim.Native.Nat.{◌+◌, ◌-◌, ◌<◌, ◌≤◌}
-use mathlib.Core.Path.{◌≡◌, refl, sym, ◌∙◌}
-use native.Mathlib.Omega.{arith}
+use Prim.Native.Nat.{◌+◌, ◌-◌, ◌≤◌}
+use mathlib.Core.Path.{◌≡◌}
 use lib.ListN.{length}
 use Rattle.rules.specs.Journal.{track_of, rollback as rollbackOf}
 use Rattle.rules.specs.SharedWords.{Tied}
-use Rattle.laws.proofs.JournalWordLaws.{good_room, good_each, good_range, good_fewer}
-use Rattle.laws.proofs.JournalLaws.{entries_of_length, rollback_done}
-use Rattle.journal.proofs.MoveLaws.{back_turn}
-use borrow.Author.Rules.{rules}
 use Rattle.journal.proofs.rollback.Given as goal
 
 abbrev pub invariant-loop-left : goal.invariant-loop-left

@@ -6,7 +6,6 @@ use native.Mathlib.Omega.{arith}
 use Rattle.rules.specs.Journal.{rotation, words_of, carry_out}
 use Rattle.laws.proofs.RangeLaws.{in_rotation}
 use Rattle.journal.proofs.MoveLaws.{moved_one}
-use borrow.Author.Rules.{rules}
 use Rattle.journal.proofs.rotate.Goals as goal
 
 pub rotate_segments-requires : goal.rotate_segments-requires

@@ -1,7 +1,6 @@
 use Rattle.rules.specs.Journal.{swap, words_of, carry_out}
 use Rattle.laws.proofs.RangeLaws.{in_swap}
 use Rattle.journal.proofs.MoveLaws.{moved_one}
-use borrow.Author.Rules.{rules}
 use Rattle.journal.proofs.swap.Goals as goal
 
 pub returns : goal.returns

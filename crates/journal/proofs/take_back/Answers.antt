@@ -6,7 +6,6 @@ use Rattle.rules.specs.Lists.{at}
 use Rattle.rules.specs.Journal.{take_back}
 use Rattle.laws.proofs.JournalWordLaws.{entry_reversal, entry_rotation, entry_swap}
 use Rattle.laws.proofs.RangeLaws.{reversal_in, rotation_in, swap_in}
-use borrow.Author.Rules.{rules}
 use Rattle.journal.proofs.take_back.Goals as goal
 
 pub reverse_positions-requires : goal.reverse_positions-requires

@@ -4,7 +4,6 @@ use lib.ListN.{length}
 use Rattle.rules.specs.Plan.{leg_in}
 use Rattle.kicks.proofs.KickingLaws.{ready_fewer, ready_after}
 use Rattle.kicks.proofs.PartLaws.{bridge_made}
-use borrow.Author.Rules.{rules}
 use Rattle.kicks.proofs.bridge_kick.Goals as goal
 
 pub exchange-k-requires : goal.exchange-k-requires

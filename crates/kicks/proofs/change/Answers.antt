@@ -3,7 +3,6 @@ use lib.IntN.{ℤ, pos, ◌+ℤ◌, ◌-ℤ◌, -ℤ-+ℤ_cancel}
 use mir.Syntax.{w32}
 use mir.ValLaws.{to_z-of_z, to_z_pos}
 use Rattle.kicks.proofs.ChangeLaws.{sub-fits}
-use borrow.Author.Rules.{rules}
 use Rattle.kicks.proofs.change.Goals as goal
 
 pub overflow_sub-result : goal.overflow_sub-result

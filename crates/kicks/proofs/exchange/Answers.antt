@@ -3,7 +3,6 @@ use native.Mathlib.Omega.{arith}
 use lib.ListN.{length}
 use Rattle.rules.specs.Plan.{leg_in}
 use Rattle.kicks.proofs.ExchangeLaws.{exchange_made, ends_eight, eight_other}
-use borrow.Author.Rules.{rules}
 use Rattle.kicks.proofs.exchange.Goals as goal
 
 pub ends_of-e-requires : goal.ends_of-e-requires

@@ -4,7 +4,6 @@ use lib.ListN.{length}
 use Rattle.rules.specs.Plan.{leg_in}
 use Rattle.rules.specs.Journal.{track_of}
 use Rattle.kicks.proofs.GlobalLaws.{global_shuffle}
-use borrow.Author.Rules.{rules}
 use Rattle.kicks.proofs.global_kick.Goals as goal
 
 pub returns-then-round-lt8 : goal.returns-then-round-lt8

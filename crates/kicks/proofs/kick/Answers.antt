@@ -8,7 +8,6 @@ use Rattle.kicks.proofs.ExchangeLaws.{exchange_segment}
 use Rattle.laws.proofs.KickKindLaws.{kind_stays, kick_global, kick_segment}
 use Rattle.kicks.specs.Kicking.{global_drawn}
 use Rattle.kicks.proofs.KickingLaws.{ready_fewer, made_wider}
-use borrow.Author.Rules.{rules}
 use Rattle.kicks.proofs.kick.Goals as goal
 
 pub returns-then-kind_at-eq2 : goal.returns-then-kind_at-eq2

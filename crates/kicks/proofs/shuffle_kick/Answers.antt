@@ -4,7 +4,6 @@ use lib.ListN.{length}
 use Rattle.rules.specs.Plan.{leg_in}
 use Rattle.kicks.proofs.KickingLaws.{tied_stops, journalled_fewer}
 use Rattle.kicks.proofs.PartLaws.{shuffle_made}
-use borrow.Author.Rules.{rules}
 use Rattle.kicks.proofs.shuffle_kick.Goals as goal
 
 pub shuffle-h-requires : goal.shuffle-h-requires

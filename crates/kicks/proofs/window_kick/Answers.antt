@@ -7,7 +7,6 @@ use Rattle.rules.specs.Ring.{prev as prevOf}
 use Rattle.rules.specs.Plan.{leg_in}
 use Rattle.kicks.proofs.KickingLaws.{tied_stops}
 use Rattle.kicks.proofs.PartLaws.{window_made, window_still}
-use borrow.Author.Rules.{rules}
 use Rattle.kicks.proofs.window_kick.Goals as goal
 
 pub returns-then-n-lt32 : goal.returns-then-n-lt32

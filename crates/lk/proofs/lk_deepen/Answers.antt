@@ -1,11 +1,8 @@
-use Prim.Native.Nat.{◌*◌, ◌≤◌, ◌<◌}
-use mathlib.Core.Path.{◌≡◌, sym, subst, ◌∙◌}
-use mathlib.Core.List.{List, []}
+use mathlib.Core.Path.{sym, subst, ◌∙◌}
+use mathlib.Core.List.{[]}
 use native.Mathlib.Omega.{arith}
-use lib.ListN.{length}
 use Rattle.lk_state.specs.Stacks.{Stepping}
 use Rattle.lk.proofs.SideLaws.{deep_none, deep_some}
-use borrow.Author.Rules.{rules}
 use Rattle.lk.proofs.lk_deepen.Goals as goal
 
 pub lk_walk-w-requires : goal.lk_walk-w-requires

@@ -1,12 +1,9 @@
-use Prim.Native.Nat.{◌+◌, ◌*◌, ◌≤◌, ◌<◌}
-use mathlib.Core.Path.{◌≡◌, refl, sym, ap, ◌∙◌}
-use mathlib.Core.List.{List, []}
+use mathlib.Core.Path.{refl, sym, ◌∙◌}
+use mathlib.Core.List.{[]}
 use native.Mathlib.Omega.{arith}
-use lib.ListN.{length}
 use Rattle.improve.proofs.StepLaws.{stepped_none}
 use Rattle.lk.proofs.WalkLaws.{ready_kept}
-use Rattle.lk.proofs.SideLaws.{none_round, none_room, from_few, from_first, first_none, from_second}
-use borrow.Author.Rules.{rules}
+use Rattle.lk.proofs.SideLaws.{none_room, from_few, from_first, first_none, from_second}
 use Rattle.lk.proofs.lk_from.Goals as goal
 
 pub returns-then-round-lt5 : goal.returns-then-round-lt5

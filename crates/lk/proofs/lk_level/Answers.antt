@@ -1,6 +1,5 @@
 use mathlib.Core.Path.{refl}
 use native.Mathlib.Omega.{arith}
-use borrow.Author.Rules.{rules}
 use Rattle.lk.proofs.lk_level.Goals as goal
 
 pub returns-then-level-ge25 : goal.returns-then-level-ge25

@@ -1,12 +1,9 @@
-use Prim.Native.Nat.{◌+◌, ◌-◌, ◌*◌, ◌≤◌, ◌<◌}
 use mathlib.Core.Path.{◌≡◌, refl, sym, ap, ◌∙◌}
 use native.Mathlib.Omega.{arith}
 use lib.ListN.{length}
 use Rattle.improve.proofs.StepLaws.{stepped_none}
-use Rattle.lk_scans.specs.Picked.{Fine}
 use Rattle.lk.proofs.WalkLaws.{ready_kept}
-use Rattle.lk.proofs.SideLaws.{Trying, side_all, none_round, none_room, try_less, try_end, try_hit, try_miss}
-use borrow.Author.Rules.{rules}
+use Rattle.lk.proofs.SideLaws.{side_all, none_round, none_room, try_less, try_end, try_hit, try_miss}
 use Rattle.lk.proofs.lk_side.Goals as goal
 
 pub ahead-t2-requires : goal.ahead-t2-requires

@@ -1,12 +1,7 @@
-use Prim.Native.Nat.{◌+◌, ◌-◌, ◌*◌, ◌≤◌, ◌<◌}
-use mathlib.Core.Path.{◌≡◌, refl, sym, ap, ◌∙◌}
-use native.Mathlib.Omega.{arith}
+use Prim.Native.Nat.{◌-◌}
+use mathlib.Core.Path.{◌≡◌}
 use lib.ListN.{length}
-use Rattle.improve.proofs.StepLaws.{stepped_none}
-use Rattle.lk_scans.specs.Picked.{Fine}
-use Rattle.lk.proofs.WalkLaws.{ready_kept}
-use Rattle.lk.proofs.SideLaws.{Trying, side_all, none_round, none_room, try_less, try_end, try_hit, try_miss}
-use borrow.Author.Rules.{rules}
+use Rattle.lk.proofs.SideLaws.{Trying}
 use Rattle.lk.proofs.lk_side.Given as goal
 
 abbrev pub invariant-loop-p : goal.invariant-loop-p

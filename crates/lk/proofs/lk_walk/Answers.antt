@@ -1,11 +1,8 @@
-use Prim.Native.Nat.{ℕ, ◌+◌, ◌-◌, ◌*◌, ◌≤◌, ◌<◌}
-use mathlib.Core.Path.{◌≡◌, refl, sym, ap, ◌∙◌}
+use mathlib.Core.Path.{refl, ◌∙◌}
 use native.Mathlib.Omega.{arith}
-use lib.ListN.{length}
-use Rattle.rules.specs.Words.{Stop}
-use Rattle.lk_scans.specs.Picked.{cont_is, trial_in}
+use Rattle.lk_scans.specs.Picked.{trial_in}
 use Rattle.lk.proofs.NoteLaws.{noted}
-use Rattle.lk.proofs.WalkLaws.{Ahead, ahead_start, ahead_turn, ahead_over, ready_kept}
+use Rattle.lk.proofs.WalkLaws.{ahead_start, ahead_turn, ahead_over, ready_kept}
 use Rattle.lk.proofs.lk_walk.Goals as goal
 
 pub lk_new-st-requires : goal.lk_new-st-requires

@@ -1,11 +1,8 @@
-use Prim.Native.Nat.{ℕ, ◌+◌, ◌-◌, ◌*◌, ◌≤◌, ◌<◌}
-use mathlib.Core.Path.{◌≡◌, refl, sym, ap, ◌∙◌}
-use native.Mathlib.Omega.{arith}
+use Prim.Native.Nat.{◌-◌}
+use mathlib.Core.Path.{◌≡◌}
 use lib.ListN.{length}
-use Rattle.rules.specs.Words.{Stop}
-use Rattle.lk_scans.specs.Picked.{cont_is, trial_in}
-use Rattle.lk.proofs.NoteLaws.{noted}
-use Rattle.lk.proofs.WalkLaws.{Ahead, ahead_start, ahead_turn, ahead_over, ready_kept}
+use Rattle.lk_scans.specs.Picked.{trial_in}
+use Rattle.lk.proofs.WalkLaws.{Ahead}
 use Rattle.lk.proofs.lk_walk.Given as goal
 
 abbrev pub invariant-loop-p : goal.invariant-loop-p

@@ -1,9 +1,6 @@
-use mathlib.Core.Path.{ap}
-use native.Mathlib.Omega.{arith}
 use Rattle.rules.specs.Queue.{push_all}
 use Rattle.lk_state.specs.Stacks.{stops_in}
 use Rattle.improve.proofs.StepLaws.{pushed}
-use borrow.Author.Rules.{rules}
 use Rattle.lk.proofs.push_moves.Goals as goal
 
 pub push_two-l-requires : goal.push_two-l-requires

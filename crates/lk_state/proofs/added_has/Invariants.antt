@@ -1,10 +1,7 @@
 use Prim.Native.Nat.{◌≤◌}
-use mathlib.Core.Path.{◌≡◌, refl}
-use native.Mathlib.Omega.{arith}
+use mathlib.Core.Path.{◌≡◌}
 use Rattle.rules.specs.Step.{among}
 use Rattle.lk_state.specs.Stacks.{leg_is, legs_in}
-use Rattle.lk_state.proofs.StackLaws.{has_hit, has_turn, has_done}
-use borrow.Author.Rules.{rules}
 use Rattle.lk_state.proofs.added_has.Given as goal
 
 abbrev pub invariant-loop-i : goal.invariant-loop-i

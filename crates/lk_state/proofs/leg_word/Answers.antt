@@ -1,5 +1,4 @@
 use Rattle.lk_state.proofs.StackLaws.{word_leg}
-use borrow.Author.Rules.{rules}
 use Rattle.lk_state.proofs.leg_word.Goals as goal
 
 pub edge-requires : goal.edge-requires

@@ -1,10 +1,8 @@
-use mathlib.Core.Path.{◌≡◌, refl}
-use mathlib.Core.List.{List, [], ◌∷◌}
-use Rattle.rules.specs.Ring.{Leg}
+use mathlib.Core.Path.{refl}
+use mathlib.Core.List.{[], ◌∷◌}
 use Rattle.rules.specs.Step.{begin}
 use Rattle.lk_state.specs.Stacks.{legs_in, stops_in}
 use Rattle.lk_state.specs.States.{step_of}
-use borrow.Author.Rules.{rules}
 use Rattle.lk_state.proofs.lk_new.Goals as goal
 
 pub returns : goal.returns

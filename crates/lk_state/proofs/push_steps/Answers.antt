@@ -1,12 +1,8 @@
-use Prim.Native.Nat.{◌-◌, ◌≤◌}
 use mathlib.Core.Path.{◌≡◌, refl, ap, ◌∙◌}
 use native.Mathlib.Omega.{arith}
-use lib.ListN.{length}
 use Rattle.rules.specs.Queue.{push_all, waiting}
-use Rattle.queue.specs.Lines.{InLine}
 use Rattle.lk_state.specs.Stacks.{stops_in}
 use Rattle.lk_state.proofs.StackLaws.{push_word}
-use borrow.Author.Rules.{rules}
 use Rattle.lk_state.proofs.push_steps.Goals as goal
 
 pub loop-i-init : goal.loop-i-init

@@ -1,12 +1,9 @@
 use Prim.Native.Nat.{◌-◌, ◌≤◌}
-use mathlib.Core.Path.{◌≡◌, refl, ap, ◌∙◌}
-use native.Mathlib.Omega.{arith}
+use mathlib.Core.Path.{◌≡◌}
 use lib.ListN.{length}
 use Rattle.rules.specs.Queue.{push_all, waiting}
 use Rattle.queue.specs.Lines.{InLine}
 use Rattle.lk_state.specs.Stacks.{stops_in}
-use Rattle.lk_state.proofs.StackLaws.{push_word}
-use borrow.Author.Rules.{rules}
 use Rattle.lk_state.proofs.push_steps.Given as goal
 
 abbrev pub invariant-loop-i : goal.invariant-loop-i

@@ -1,9 +1,6 @@
 use Prim.Native.Nat.{◌-◌, ◌≤◌}
-use mathlib.Core.Path.{refl}
-use native.Mathlib.Omega.{arith}
-use borrow.Author.Rules.{rules}
 use lib.ListN.{length}
-use Rattle.loads.proofs.LayLaws.{clearing_turn, clearing_done, Clearing}
+use Rattle.loads.proofs.LayLaws.{Clearing}
 use Rattle.loads.proofs.clear_flags.Given as goal
 
 abbrev pub invariant-loop-i : goal.invariant-loop-i

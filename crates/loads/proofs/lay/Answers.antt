@@ -1,9 +1,6 @@
-use Prim.Native.Nat.{◌-◌, ◌≤◌}
 use mathlib.Core.Path.{refl}
 use native.Mathlib.Omega.{arith}
-use borrow.Author.Rules.{rules}
-use lib.ListN.{length}
-use Rattle.loads.proofs.LayLaws.{laying_turn, laying_done, stop_below, Laying}
+use Rattle.loads.proofs.LayLaws.{laying_turn, laying_done, stop_below}
 use Rattle.loads.proofs.lay.Goals as goal
 
 pub offset_bounds-places-s : goal.offset_bounds-places-s

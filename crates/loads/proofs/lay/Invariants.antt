@@ -1,9 +1,6 @@
 use Prim.Native.Nat.{◌-◌, ◌≤◌}
-use mathlib.Core.Path.{refl}
-use native.Mathlib.Omega.{arith}
-use borrow.Author.Rules.{rules}
 use lib.ListN.{length}
-use Rattle.loads.proofs.LayLaws.{laying_turn, laying_done, stop_below, Laying}
+use Rattle.loads.proofs.LayLaws.{Laying}
 use Rattle.loads.proofs.lay.Given as goal
 
 abbrev pub invariant-loop-i : goal.invariant-loop-i

@@ -1,6 +1,5 @@
 use mathlib.Core.Path.{◌≡◌, ap, ◌∙◌}
 use native.Mathlib.Omega.{arith}
-use borrow.Author.Rules.{rules}
 use lib.ListN.{length}
 use Rattle.rules.specs.Journal.{entries_of}
 use Rattle.laws.proofs.JournalLaws.{undo_all_length}

@@ -1,9 +1,6 @@
 use mathlib.Core.Path.{◌≡◌, ◌∙◌}
 use native.Mathlib.Omega.{arith}
-use lib.ListN.{length}
-use Rattle.queue.specs.Lines.{InLine}
 use Rattle.queue.proofs.LineLaws.{line_cleared}
-use borrow.Author.Rules.{rules}
 use Rattle.queue.proofs.clear_queue.Goals as goal
 
 pub loop-l-smaller : goal.loop-l-smaller

@@ -1,9 +1,6 @@
-use mathlib.Core.Path.{◌≡◌, ◌∙◌}
-use native.Mathlib.Omega.{arith}
+use mathlib.Core.Path.{◌≡◌}
 use lib.ListN.{length}
 use Rattle.queue.specs.Lines.{InLine}
-use Rattle.queue.proofs.LineLaws.{line_cleared}
-use borrow.Author.Rules.{rules}
 use Rattle.queue.proofs.clear_queue.Given as goal
 
 abbrev pub invariant-loop-l : goal.invariant-loop-l

@@ -1,6 +1,5 @@
 use native.Mathlib.Omega.{arith}
 use Rattle.queue.proofs.LineLaws.{line_took, first_below, length_flags_are}
-use borrow.Author.Rules.{rules}
 use Rattle.queue.proofs.pop_front.Goals as goal
 
 pub bounds-flags-s : goal.bounds-flags-s

@@ -5,7 +5,6 @@ use Rattle.rules.specs.Lists.{at}
 use Rattle.laws.proofs.QueueLaws.{push_old}
 use Rattle.ring.specs.Around.{around}
 use Rattle.queue.proofs.LineLaws.{line_pushed, line_gone, line_waits, length_flags_are}
-use borrow.Author.Rules.{rules}
 use Rattle.queue.proofs.push.Goals as goal
 
 pub bounds-flags-s : goal.bounds-flags-s

@@ -1,8 +1,4 @@
-use Prim.Native.Nat.{◌-◌, ◌≤◌}
-use mathlib.Core.Path.{◌≡◌, refl, ◌∙◌}
-use lib.ListN.{length, drop}
-use Rattle.rules.specs.Queue.{push_all, waiting}
-use Rattle.queue.specs.Lines.{InLine}
+use mathlib.Core.Path.{refl, ◌∙◌}
 use Rattle.queue.proofs.PushLaws.{push_turn, push_done}
 use borrow.Author.Rules.{rules}
 use Rattle.queue.proofs.push_all.Goals as goal

@@ -1,10 +1,8 @@
 use Prim.Native.Nat.{◌-◌, ◌≤◌}
-use mathlib.Core.Path.{◌≡◌, refl, ◌∙◌}
+use mathlib.Core.Path.{◌≡◌}
 use lib.ListN.{length, drop}
 use Rattle.rules.specs.Queue.{push_all, waiting}
 use Rattle.queue.specs.Lines.{InLine}
-use Rattle.queue.proofs.PushLaws.{push_turn, push_done}
-use borrow.Author.Rules.{rules}
 use Rattle.queue.proofs.push_all.Given as goal
 
 abbrev pub invariant-loop-i : goal.invariant-loop-i

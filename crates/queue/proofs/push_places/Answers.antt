@@ -1,13 +1,11 @@
-use Prim.Native.Nat.{◌-◌, ◌≤◌, ◌<◌}
+use Prim.Native.Nat.{◌≤◌, ◌<◌}
 use mathlib.Core.Path.{◌≡◌, refl, sym, ap, ◌∙◌}
 use native.Mathlib.Omega.{arith}
-use lib.ListN.{length, take, drop}
+use lib.ListN.{length, take}
 use Rattle.rules.specs.Lists.{at}
 use Rattle.rules.specs.Ring.{next, turn}
-use Rattle.rules.specs.Queue.{push, push_all, waiting}
-use Rattle.ring.specs.Around.{around}
+use Rattle.rules.specs.Queue.{push}
 use Rattle.ring.proofs.AroundLaws.{around_0, next_around}
-use Rattle.queue.specs.Lines.{InLine}
 use Rattle.queue.proofs.PushLaws.{push_turn, push_done, length_places, at_places}
 use borrow.Author.Rules.{rules}
 use Rattle.queue.proofs.push_places.Goals as goal

@@ -1,7 +1,6 @@
 use Prim.Native.Nat.{ℕ}
 use mathlib.Core.Path.{sym, ap, ◌∙◌}
 use mathlib.Core.List.{[]}
-use borrow.Author.Rules.{rules}
 use Rattle.rules.specs.Memory.{Lent, Carried}
 use Rattle.refusals.specs.Lending.{lending, carrying}
 use Rattle.refusals.specs.Refusing.{state_good}

@@ -1,10 +1,6 @@
-use Prim.Native.Nat.{ℕ, ◌+◌, ◌-◌, ◌*◌, ◌≤◌, ◌<◌}
 use mathlib.Core.Path.{sym, ◌∙◌}
-use mathlib.Core.Logic.{◌≢◌}
 use native.Mathlib.Omega.{arith}
 use borrow.Author.Count.{below_more}
-use borrow.Author.Rules.{rules}
-use Rattle.rules.specs.Lists.{at}
 use Rattle.laws.proofs.CellLaws.{row_within, cells_few}
 use Rattle.refusals.proofs.EntriesLaws.{entries_pass, entry_beyond, entry_own}
 use Rattle.refusals.proofs.entries_good.Goals as goal

@@ -1,5 +1,4 @@
 use mathlib.Core.List.{[], ◌∷◌}
-use borrow.Author.Rules.{rules}
 use Rattle.refusals.proofs.SizeLaws.{first_fails}
 use Rattle.refusals.proofs.lengths_number.Goals as goal
 

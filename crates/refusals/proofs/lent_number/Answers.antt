@@ -1,6 +1,5 @@
 use mathlib.Core.Path.{sym, ◌∙◌}
 use mathlib.Core.List.{[], ◌∷◌}
-use borrow.Author.Rules.{rules}
 use lib.ListN.{length}
 use Rattle.refusals.proofs.SizeLaws.{sized, long_all}
 use Rattle.refusals.proofs.PartLaws.{sizes_refuse, lengths_refuse, lists_decide}

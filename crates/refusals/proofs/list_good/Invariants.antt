@@ -1,11 +1,7 @@
 use Prim.Native.Nat.{ℕ, ◌-◌, ◌≤◌, ◌<◌}
-use mathlib.Core.Path.{◌≡◌, sym, ◌∙◌}
+use mathlib.Core.Path.{◌≡◌}
 use mathlib.Core.Bool.{true}
-use native.Mathlib.Omega.{arith}
-use borrow.Author.Count.{below_more}
-use borrow.Author.Rules.{rules}
 use Rattle.rules.specs.Plan.{list_in}
-use Rattle.refusals.proofs.EntriesLaws.{lists_pass, list_fails}
 use Rattle.refusals.specs.Refusing.{good_entries}
 use Rattle.refusals.proofs.list_good.Given as goal
 

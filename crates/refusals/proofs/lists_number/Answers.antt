@@ -1,5 +1,4 @@
 use mathlib.Core.Path.{sym, ◌∙◌}
-use borrow.Author.Rules.{rules}
 use Rattle.refusals.proofs.ListLaws.{not_even, odd_near_list, odd_alpha_list, good_lists}
 use Rattle.refusals.proofs.lists_number.Goals as goal
 

@@ -1,6 +1,5 @@
 use mathlib.Core.Path.{sym, ◌∙◌}
 use mathlib.Core.List.{[], ◌∷◌}
-use borrow.Author.Rules.{rules}
 use Rattle.rules.specs.Numbers.{long}
 use Rattle.refusals.specs.Refusing.{plan_long}
 use Rattle.refusals.proofs.SizeLaws.{both_hold, second_fails, plan_fails}

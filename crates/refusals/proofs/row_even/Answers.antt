@@ -1,7 +1,6 @@
-use Prim.Native.Nat.{ℕ, ◌+◌, ◌-◌, ◌*◌, ◌≤◌, ◌<◌}
+use Prim.Native.Nat.{ℕ}
 use mathlib.Core.Path.{◌≡◌, sym, ap, ◌∙◌}
 use native.Mathlib.Omega.{arith}
-use borrow.Author.Rules.{rules}
 use Rattle.rules.specs.Lists.{at}
 use Rattle.rules.specs.Plan.{leg_in}
 use Rattle.laws.proofs.CellLaws.{row_within, cells_few}

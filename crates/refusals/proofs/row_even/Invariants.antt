@@ -1,11 +1,6 @@
 use Prim.Native.Nat.{ℕ, ◌+◌, ◌-◌, ◌*◌, ◌≤◌, ◌<◌}
-use mathlib.Core.Path.{◌≡◌, sym, ap, ◌∙◌}
-use native.Mathlib.Omega.{arith}
-use borrow.Author.Rules.{rules}
-use Rattle.rules.specs.Lists.{at}
+use mathlib.Core.Path.{◌≡◌}
 use Rattle.rules.specs.Plan.{leg_in}
-use Rattle.laws.proofs.CellLaws.{row_within, cells_few}
-use Rattle.refusals.proofs.EvenRowLaws.{row_passes, row_fails, one_further}
 use Rattle.refusals.proofs.row_even.Given as goal
 
 abbrev pub invariant-loop-b : goal.invariant-loop-b

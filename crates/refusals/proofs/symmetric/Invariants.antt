@@ -1,11 +1,7 @@
 use Prim.Native.Nat.{ℕ, ◌-◌, ◌≤◌, ◌<◌}
-use mathlib.Core.Path.{◌≡◌, sym, ◌∙◌}
+use mathlib.Core.Path.{◌≡◌}
 use mathlib.Core.Bool.{true}
-use native.Mathlib.Omega.{arith}
-use borrow.Author.Count.{below_more}
-use borrow.Author.Rules.{rules}
 use Rattle.rules.specs.Plan.{leg_in}
-use Rattle.refusals.proofs.EvenRowLaws.{rows_pass, rows_fail}
 use Rattle.refusals.specs.Refusing.{row_even}
 use Rattle.refusals.proofs.symmetric.Given as goal
 

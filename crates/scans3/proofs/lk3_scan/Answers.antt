@@ -11,8 +11,7 @@ use Rattle.lk_state.specs.Stacks.{legs_in}
 use Rattle.seeks.specs.Seeks.{may_in, sought}
 use Rattle.seeks.proofs.MayLaws.{may_two}
 use Rattle.scans3.specs.Scans.{scan_of}
-use Rattle.scans3.proofs.ScanLaws.{Left, sought3, sought4, sought5, rich3, rich5, none_gain, two_small, all3, done3, skip3, try3, done4, hit4, miss4, done5, skip5, hit5, miss5}
-use borrow.Author.Rules.{rules}
+use Rattle.scans3.proofs.ScanLaws.{rich3, rich5, none_gain, two_small, all3, done3, skip3, try3, done4, hit4, miss4, done5, skip5, hit5, miss5}
 use Rattle.scans3.proofs.lk3_scan.Goals as goal
 
 pub ahead-t2_next-requires : goal.ahead-t2_next-requires

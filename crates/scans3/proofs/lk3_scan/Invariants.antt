@@ -1,18 +1,11 @@
-use Prim.Native.Nat.{◌+◌, ◌-◌, ◌<◌, ◌≤◌}
-use mathlib.Core.Path.{◌≡◌, refl, sym, ap, ◌∙◌}
-use mathlib.Core.Bool.{Bool}
-use native.Mathlib.Omega.{arith}
-use lib.Dec.{eqb}
+use Prim.Native.Nat.{◌+◌, ◌-◌}
 use lib.ListN.{length}
 use Rattle.rules.specs.Plan.{leg_in, list_in}
-use Rattle.laws.proofs.EntryLaws.{length_list}
 use Rattle.tries.specs.Picks.{pick}
 use Rattle.lk_state.specs.Stacks.{legs_in}
-use Rattle.seeks.specs.Seeks.{may_in, sought}
-use Rattle.seeks.proofs.MayLaws.{may_two}
+use Rattle.seeks.specs.Seeks.{may_in}
 use Rattle.scans3.specs.Scans.{scan_of}
-use Rattle.scans3.proofs.ScanLaws.{Left, sought3, sought4, sought5, rich3, rich5, none_gain, two_small, all3, done3, skip3, try3, done4, hit4, miss4, done5, skip5, hit5, miss5}
-use borrow.Author.Rules.{rules}
+use Rattle.scans3.proofs.ScanLaws.{Left, sought3, sought4, sought5}
 use Rattle.scans3.proofs.lk3_scan.Given as goal
 
 abbrev pub invariant-fifths : goal.invariant-fifths

@@ -1,6 +1,5 @@
 use borrow.Author.Tests.{le-leb, lt-leb}
 use Rattle.scans3.specs.Scans.{out3}
-use borrow.Author.Rules.{rules}
 use Rattle.scans3.proofs.out3.Goals as goal
 
 pub returns-then-g-d23 : goal.returns-then-g-d23

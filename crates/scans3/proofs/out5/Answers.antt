@@ -1,6 +1,5 @@
 use borrow.Author.Tests.{le-leb, lt-leb}
 use Rattle.scans3.specs.Scans.{out5}
-use borrow.Author.Rules.{rules}
 use Rattle.scans3.proofs.out5.Goals as goal
 
 pub returns-then-g2-d45 : goal.returns-then-g2-d45

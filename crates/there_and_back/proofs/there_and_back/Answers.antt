@@ -6,7 +6,6 @@ use Rattle.rules.specs.Journal.{Track, track_of}
 use Rattle.laws.proofs.TiedLaws.{tied_places}
 use Rattle.laws.proofs.JournalLaws.{entries_of_length}
 use Rattle.laws.proofs.SinceLaws.{reversing_back}
-use borrow.Author.Rules.{rules}
 use Rattle.there_and_back.proofs.there_and_back.Goals as goal
 
 pub reverse-made-requires : goal.reverse-made-requires

@@ -3,7 +3,6 @@ use Prim.Native.Nat.{◌<◌, ◌≤◌}
 use native.Mathlib.Omega.{arith}
 use borrow.Author.Tests.{lt-ltb, le-ltb}
 use Rattle.rules.specs.Kicks.{kind_at, longest as longestOf}
-use borrow.Author.Rules.{rules}
 use Rattle.kicks.proofs.cuts.kind_at.Goals as goal
 
 pub returns-then-longest-lt2 : goal.returns-then-longest-lt2

@@ -1,6 +1,5 @@
 use Rattle.rules.specs.Kicks.{longest as longestOf}
 use native.Mathlib.Omega.{arith}
-use borrow.Author.Rules.{rules}
 use Rattle.kicks.proofs.cuts.longest.Goals as goal
 
 pub returns-then-third-lt200 : goal.returns-then-third-lt200

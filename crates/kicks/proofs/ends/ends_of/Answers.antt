@@ -1,5 +1,4 @@
 use native.Mathlib.Omega.{arith}
-use borrow.Author.Rules.{rules}
 use Rattle.kicks.proofs.ends.ends_of.Goals as goal
 
 pub stop_on-requires-4 : goal.stop_on-requires-4

@@ -4,7 +4,6 @@ use native.Mathlib.Omega.{arith}
 use lib.Dec.{eqb}
 use borrow.Author.Tests.{eq-eqb, ne_eqb}
 use Rattle.kicks.specs.Exchanging.{joining}
-use borrow.Author.Rules.{rules}
 use Rattle.kicks.proofs.ends.joints.Goals as goal
 
 pub returns-then-b-eq0 : goal.returns-then-b-eq0

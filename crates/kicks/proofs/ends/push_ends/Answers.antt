@@ -7,7 +7,6 @@ use Rattle.laws.proofs.EveryLaws.{more, none}
 use Rattle.kicks.specs.Exchanging.{queued}
 use Rattle.kicks.proofs.EndsLaws.{stops_below}
 use Rattle.kicks.proofs.KickingLaws.{waits_as, waits_more}
-use borrow.Author.Rules.{rules}
 use Rattle.kicks.proofs.ends.push_ends.Goals as goal
 
 pub push_all-requires : goal.push_all-requires

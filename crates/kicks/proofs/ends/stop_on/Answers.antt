@@ -1,7 +1,6 @@
 use mathlib.Core.Path.{◌∙◌, ap}
 use Rattle.rules.specs.Lists.{at}
 use Rattle.kicks.proofs.EndsLaws.{stop_wrapped}
-use borrow.Author.Rules.{rules}
 use Rattle.kicks.proofs.ends.stop_on.Goals as goal
 
 pub returns : goal.returns

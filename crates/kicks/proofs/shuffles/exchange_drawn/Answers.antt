@@ -4,7 +4,6 @@ use native.Mathlib.Omega.{arith}
 use lib.Dec.{eqb}
 use borrow.Author.Tests.{eq-eqb, ne_eqb}
 use Rattle.journal.proofs.GrewLaws.{grew_self}
-use borrow.Author.Rules.{rules}
 use Rattle.kicks.proofs.shuffles.exchange_drawn.Goals as goal
 
 pub returns-then-r-k : goal.returns-then-r-k

@@ -1,10 +1,8 @@
 use Prim.Native.Nat.{◌-◌}
 use mathlib.Core.Path.{◌≡◌, refl, ◌∙◌}
 use native.Mathlib.Omega.{arith}
-use lib.ListN.{length}
-use borrow.Author.Rules.{rules}
 use Rattle.rules.specs.Draws.{drawn, moved}
-use Rattle.kicks.proofs.ShuffleLaws.{Shuffling, shuffle_starts, shuffle_turn, shuffle_done}
+use Rattle.kicks.proofs.ShuffleLaws.{shuffle_starts, shuffle_turn, shuffle_done}
 use Rattle.kicks.proofs.shuffles.shuffle.Goals as goal
 
 pub loop-k-init : goal.loop-k-init

@@ -1,10 +1,6 @@
-use Prim.Native.Nat.{◌-◌}
-use mathlib.Core.Path.{◌≡◌, refl, ◌∙◌}
-use native.Mathlib.Omega.{arith}
+use mathlib.Core.Path.{◌≡◌}
 use lib.ListN.{length}
-use borrow.Author.Rules.{rules}
-use Rattle.rules.specs.Draws.{drawn, moved}
-use Rattle.kicks.proofs.ShuffleLaws.{Shuffling, shuffle_starts, shuffle_turn, shuffle_done}
+use Rattle.kicks.proofs.ShuffleLaws.{Shuffling}
 use Rattle.kicks.proofs.shuffles.shuffle.Given as goal
 
 abbrev pub invariant-loop-k : goal.invariant-loop-k

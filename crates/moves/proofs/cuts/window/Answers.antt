@@ -3,7 +3,6 @@ use mathlib.Core.Path.{sym, ◌∙◌}
 use native.Mathlib.Omega.{arith}
 use borrow.Author.Tests.{le-leb, lt-leb}
 use Rattle.laws.proofs.MoveWayLaws.{over_stays, first_stays, second_stays}
-use borrow.Author.Rules.{rules}
 use Rattle.moves.proofs.cuts.window.Goals as goal
 
 pub returns-then-longest : goal.returns-then-longest

@@ -1,5 +1,4 @@
 use borrow.Author.Tests.{eq-eqb, ne_eqb}
-use borrow.Author.Rules.{rules}
 use Rattle.moves.proofs.entries.any_of.Goals as goal
 
 pub returns-then-v-a : goal.returns-then-v-a

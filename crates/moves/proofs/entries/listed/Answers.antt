@@ -4,7 +4,6 @@ use Prim.Native.Nat.{ℕ, ◌+◌, ◌*◌, ◌<◌}
 use native.Mathlib.Omega.{arith}
 use Rattle.laws.proofs.CellLaws.{row_within, cells_few}
 use Rattle.laws.proofs.EntryLaws.{entry_at}
-use borrow.Author.Rules.{rules}
 use Rattle.moves.proofs.entries.listed.Goals as goal
 
 pub overflow_mul-at : goal.overflow_mul-at

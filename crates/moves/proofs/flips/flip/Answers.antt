@@ -1,6 +1,5 @@
 use Rattle.rules.specs.Journal.{track_of, entries_of}
 use Rattle.moves.proofs.MadeLaws.{moved_made}
-use borrow.Author.Rules.{rules}
 use Rattle.moves.proofs.flips.flip.Goals as goal
 
 pub reverse-requires : goal.reverse-requires

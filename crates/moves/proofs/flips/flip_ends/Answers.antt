@@ -3,7 +3,6 @@ use mathlib.Core.Bool.{true, false}
 use lib.Dec.{eqb}
 use Rattle.rules.specs.Ring.{place, succ as succOf}
 use Rattle.laws.proofs.MoveWayLaws.{flip_ahead, flip_back}
-use borrow.Author.Rules.{rules}
 use Rattle.moves.proofs.flips.flip_ends.Goals as goal
 
 pub returns-then-ahead : goal.returns-then-ahead

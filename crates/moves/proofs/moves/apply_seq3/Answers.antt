@@ -2,7 +2,6 @@ use native.Mathlib.Omega.{arith}
 use Rattle.rules.specs.Journal.{track_of}
 use Rattle.moves.proofs.MadeLaws.{made_is}
 use Rattle.moves.proofs.MoveLaws.{seq_two, seq_flips, seq_segment, seq_inner}
-use borrow.Author.Rules.{rules}
 use Rattle.moves.proofs.moves.apply_seq3.Goals as goal
 
 pub flip-requires : goal.flip-requires

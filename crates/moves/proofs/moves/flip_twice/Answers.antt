@@ -1,7 +1,6 @@
 use native.Mathlib.Omega.{arith}
 use Rattle.rules.specs.Moves.{flip as flipOf}
 use Rattle.moves.proofs.MadeLaws.{made_room, made_made}
-use borrow.Author.Rules.{rules}
 use Rattle.moves.proofs.moves.flip_twice.Goals as goal
 
 pub flip-h-requires : goal.flip-h-requires

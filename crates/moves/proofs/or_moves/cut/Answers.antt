@@ -1,6 +1,5 @@
 use native.Mathlib.Omega.{arith}
 use Rattle.moves.specs.Cuts.{cut_of}
-use borrow.Author.Rules.{rules}
 use Rattle.moves.proofs.or_moves.cut.Goals as goal
 
 pub returns-then-fwd : goal.returns-then-fwd

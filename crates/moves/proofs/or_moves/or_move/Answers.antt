@@ -3,7 +3,6 @@ use mathlib.Core.Path.{ap, ◌∙◌}
 use native.Mathlib.Omega.{arith}
 use Rattle.rules.specs.Journal.{Track, rotation, doing, track_of, entries_of}
 use Rattle.moves.proofs.MadeLaws.{moved_made}
-use borrow.Author.Rules.{rules}
 use Rattle.moves.proofs.or_moves.or_move.Goals as goal
 
 pub rotate-requires : goal.rotate-requires

@@ -1,5 +1,4 @@
 use Rattle.moves.proofs.CutLaws.{cuts_exchange}
-use borrow.Author.Rules.{rules}
 use Rattle.moves.proofs.or_moves.or_window.Goals as goal
 
 pub returns : goal.returns
