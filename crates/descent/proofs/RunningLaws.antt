@@ -1,8 +1,8 @@
 -- What a descent keeps while it runs: what is left to do from here gives what the whole gives.
-use Prim.Native.Nat.{ℕ, zero, suc, ◌+◌, ◌-◌, ◌*◌, ◌/◌, ◌≤◌, ◌<◌}
+use Prim.Native.Nat.{ℕ, suc, ◌+◌, ◌-◌, ◌*◌, ◌/◌, ◌≤◌, ◌<◌}
 use mathlib.Core.Path.{◌≡◌, refl, sym, ap, subst, ◌∙◌}
 use mathlib.Core.Bool.{Bool, true, false}
-use mathlib.Core.List.{List, [], ◌∷◌}
+use mathlib.Core.List.{List, []}
 use native.Mathlib.Omega.{arith}
 use borrow.Author.Tests.{ltb-false}
 use lib.Dec.{ltb}
@@ -12,10 +12,9 @@ use Rattle.rules.specs.Lists.{when◌then◌else◌}
 use Rattle.rules.specs.Ring.{recount}
 use Rattle.rules.specs.Queue.{push_all, waiting}
 use Rattle.rules.specs.Journal.{Track, track_of, good_journal}
-use Rattle.rules.specs.Plan.{Plan, leg_in, leg_of}
-use Rattle.rules.specs.State.{State}
-use Rattle.rules.specs.Descend.{Manner, Ran, short, journalled, leave, descending, descend, step_from}
-use Rattle.rules.specs.SharedWords.{Tied, Square, Listed}
+use Rattle.rules.specs.Plan.{Plan, leg_of}
+use Rattle.rules.specs.Descend.{Ran, journalled, leave, descending, descend, step_from}
+use Rattle.rules.specs.SharedWords.{Square, Listed}
 use Rattle.laws.proofs.ChoiceLaws.{true_false}
 use Rattle.laws.proofs.DescendLaws.{step_time}
 use Rattle.laws.proofs.GainLaws.{Fit}
@@ -25,7 +24,6 @@ use Rattle.laws.proofs.WaitLaws.{waiting_length}
 use Rattle.journal.specs.Journalled.{Journalled, Grew}
 use Rattle.journal.proofs.GrewLaws.{grew_self, grew_grew}
 use Rattle.queue.specs.Lines.{Waits}
-use Rattle.improve.specs.Steps.{plan_of}
 use Rattle.descent.specs.Handed.{Handed, TookStep, manner_of, Ended, Descended}
 use Rattle.descent.proofs.TurnLaws.{journalled_is, short_is, emptied_before, goes, ends_empty, ends_out, ends_short}
 

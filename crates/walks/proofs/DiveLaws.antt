@@ -1,6 +1,6 @@
 -- A turn's kick and its kept descent.
-use Prim.Native.Nat.{ℕ, ◌+◌, ◌/◌, ◌≤◌}
-use mathlib.Core.Path.{◌≡◌, refl, sym, ap, ◌∙◌}
+use Prim.Native.Nat.{ℕ, ◌/◌}
+use mathlib.Core.Path.{◌≡◌, ap, ◌∙◌}
 use mathlib.Core.Bool.{true}
 use mathlib.Core.List.{List, []}
 use native.Mathlib.Omega.{arith}
@@ -9,10 +9,9 @@ use Rattle.rules.specs.Words.{Time, Round, Place}
 use Rattle.rules.specs.Draws.{moved}
 use Rattle.rules.specs.Ring.{recount}
 use Rattle.rules.specs.Plan.{leg_in, leg_of}
-use Rattle.rules.specs.State.{State, load}
+use Rattle.rules.specs.State.{load}
 use Rattle.rules.specs.Kicks.{kicked_state}
 use Rattle.rules.specs.Descend.{Ran, kept, descend}
-use Rattle.rules.specs.Journal.{Track}
 use Rattle.rules.specs.Search.{Shaken, shaken}
 use Rattle.rules.specs.Memory.{Lent, Carried, room_in, plan_in, state_in}
 use Rattle.laws.proofs.DescendLaws.{Sound, descend_sound}
@@ -22,8 +21,8 @@ use Rattle.laws.proofs.RunLaws.{kept_past}
 use Rattle.laws.proofs.StateLaws.{load_sound}
 use Rattle.laws.proofs.TiedLaws.{tied_perm}
 use Rattle.descent.specs.Handed.{manner_of}
-use Rattle.refusals.specs.Lending.{lending, carrying}
-use Rattle.walks.specs.Walking.{Given, Works, bare, Holds, Chosen, Shook, Dives, kind_of, kick_of}
+use Rattle.refusals.specs.Lending.{carrying}
+use Rattle.walks.specs.Walking.{Given, Works, bare, Chosen, Shook, Dives, kind_of, kick_of}
 use Rattle.walks.proofs.HoldLaws.{after, works_loaded, Same}
 
 module _ (l : Lent) (time : Time) (w : Works l (carrying 0 0 0 time)) (kind x : ℕ) where

@@ -1,25 +1,24 @@
 -- Memory that stands for a state, through kicks and descents.
 use Prim.Native.Nat.{ℕ, ◌+◌, ◌-◌, ◌*◌, ◌/◌, ◌≤◌, ◌<◌}
-use mathlib.Core.Path.{◌≡◌, refl, sym, ap, ap₂, subst, ◌∙◌}
-use mathlib.Core.Bool.{Bool, true, false}
+use mathlib.Core.Path.{◌≡◌, refl, sym, ap, subst, ◌∙◌}
+use mathlib.Core.Bool.{Bool, true}
 use mathlib.Core.List.{List, []}
 use native.Mathlib.Omega.{arith}
 use lib.ListN.{length}
 use Rattle.rules.specs.Words.{Time, Round, Place}
 use Rattle.rules.specs.Lists.{at}
 use Rattle.rules.specs.Ring.{recount}
-use Rattle.rules.specs.Queue.{waiting, push_all}
+use Rattle.rules.specs.Queue.{waiting}
 use Rattle.rules.specs.Journal.{Track, track_of, entries_of, good_journal}
-use Rattle.rules.specs.Plan.{Plan, leg_in, leg_of}
-use Rattle.rules.specs.State.{State, load}
+use Rattle.rules.specs.Plan.{leg_in, leg_of}
+use Rattle.rules.specs.State.{load}
 use Rattle.rules.specs.Kicks.{kick, kicked_state}
-use Rattle.rules.specs.Descend.{Manner, Ran, descend}
-use Rattle.rules.specs.Search.{Shaken, shaken}
+use Rattle.rules.specs.Descend.{Ran, descend}
+use Rattle.rules.specs.Search.{shaken}
 use Rattle.rules.specs.Memory.{Lent, Carried, room_in, plan_in, state_in}
-use Rattle.rules.specs.SharedWords.{Tied, Square, Listed}
 use Rattle.laws.proofs.BoundLaws.{leg_in_short, recount_bound}
 use Rattle.laws.proofs.DescendLaws.{Sound, descend_sound}
-use Rattle.laws.proofs.EveryLaws.{Below, at_below}
+use Rattle.laws.proofs.EveryLaws.{at_below}
 use Rattle.laws.proofs.GainLaws.{Fit}
 use Rattle.laws.proofs.RunLaws.{descend_queue}
 use Rattle.laws.proofs.TiedLaws.{tied_perm}
@@ -29,7 +28,7 @@ use Rattle.kicks.specs.Kicking.{Ready, Kicks}
 use Rattle.kicks.proofs.CountedLaws.{kick_recount}
 use Rattle.descent.specs.Handed.{Handed, Descended, manner_of}
 use Rattle.refusals.specs.Lending.{lending, carrying}
-use Rattle.walks.specs.Walking.{Given, Desk, Works, bare, Holds, Shook, Dives}
+use Rattle.walks.specs.Walking.{Given, Desk, Works, bare, Shook, Dives}
 
 -- the same lists and numbers, over other memory
 abbrev pub after : Lent → Round → List Place → List ℕ → List ℕ → List ℕ → List ℕ → Lent

@@ -1,6 +1,6 @@
 -- A kick and its descent judged is the rule's turn.
 use Prim.Native.Nat.{ℕ, ◌+◌, ◌-◌, ◌≤◌}
-use mathlib.Core.Path.{◌≡◌, refl, sym, ap, ap₂, subst, ◌∙◌}
+use mathlib.Core.Path.{◌≡◌, refl, sym, ap, subst, ◌∙◌}
 use mathlib.Core.Bool.{Bool, true, false}
 use mathlib.Core.List.{List, []}
 use native.Mathlib.Omega.{arith}
@@ -11,10 +11,10 @@ use Rattle.rules.specs.Words.{Time, Round, Place}
 use Rattle.rules.specs.Lists.{when◌then◌else◌}
 use Rattle.rules.specs.Ring.{recount}
 use Rattle.rules.specs.Plan.{leg_in, leg_of}
-use Rattle.rules.specs.Journal.{Track, track_of, cleared, entries_of, undo_all}
+use Rattle.rules.specs.Journal.{track_of, cleared, entries_of, undo_all}
 use Rattle.rules.specs.State.{State, load, commit, undo}
 use Rattle.rules.specs.Descend.{Ran, kept, descend}
-use Rattle.rules.specs.Search.{Walk, kicked_once}
+use Rattle.rules.specs.Search.{kicked_once}
 use Rattle.rules.specs.Calls.{settings_in}
 use Rattle.rules.specs.Memory.{Lent, Carried, room_in, plan_in, state_in}
 use Rattle.rules.specs.SharedWords.{Tied}
@@ -26,8 +26,7 @@ use Rattle.laws.proofs.PermLaws.{Perm}
 use Rattle.laws.proofs.RunLaws.{descend_queue}
 use Rattle.queue.specs.Lines.{InLine}
 use Rattle.loads.specs.Lying.{Laid}
-use Rattle.refusals.specs.Lending.{lending, carrying}
-use Rattle.walks.specs.Walking.{Tally, tallying, judged, Given, Works, Holds, Rests, walk_in, Goes, told, kind_of, kick_of, Dives, Judges}
+use Rattle.walks.specs.Walking.{Tally, tallying, judged, Rests, walk_in, Goes, told, kind_of, kick_of, Dives, Judges}
 use Rattle.walks.proofs.HoldLaws.{after, desk_after, given_after}
 use Rattle.walks.proofs.DiveLaws.{dive_sound, dive_past}
 

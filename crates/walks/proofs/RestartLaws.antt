@@ -1,20 +1,20 @@
 -- A restart is the rule's.
-use Prim.Native.Nat.{ℕ, ◌+◌, ◌/◌, ◌≤◌, ◌<◌}
-use mathlib.Core.Path.{◌≡◌, refl, sym, ap, ap₂, subst, ◌∙◌}
-use mathlib.Core.Bool.{Bool, true, false}
+use Prim.Native.Nat.{ℕ, ◌≤◌}
+use mathlib.Core.Path.{◌≡◌, sym, ap, ap₂, subst, ◌∙◌}
+use mathlib.Core.Bool.{false}
 use mathlib.Core.List.{List, []}
 use native.Mathlib.Omega.{arith}
-use lib.Dec.{leb, ltb}
+use lib.Dec.{ltb}
 use lib.ListN.{length}
-use Rattle.rules.specs.Words.{Time, Round, Place, Stop}
-use Rattle.rules.specs.Lists.{when◌then◌else◌, at, tally, every, rising}
+use Rattle.rules.specs.Words.{Time, Round, Place}
+use Rattle.rules.specs.Lists.{when◌then◌else◌, tally}
 use Rattle.rules.specs.Ring.{recount}
 use Rattle.rules.specs.Queue.{waiting, flags_of}
 use Rattle.rules.specs.Plan.{leg_in, leg_of}
-use Rattle.rules.specs.Journal.{Track, track_of, entries_of, good_journal}
+use Rattle.rules.specs.Journal.{track_of}
 use Rattle.rules.specs.State.{State, load, activated}
 use Rattle.rules.specs.Descend.{Ran, committed, descend}
-use Rattle.rules.specs.Search.{Shaken, Walk, shaken, restarted}
+use Rattle.rules.specs.Search.{Shaken, shaken, restarted}
 use Rattle.rules.specs.Calls.{settings_in}
 use Rattle.rules.specs.Memory.{Lent, Carried, room_in, plan_in, state_in}
 use Rattle.rules.specs.SharedWords.{Tied}
@@ -24,11 +24,10 @@ use Rattle.laws.proofs.JournalWordLaws.{good_fewer, good_all}
 use Rattle.laws.proofs.PermLaws.{Perm}
 use Rattle.laws.proofs.RunLaws.{committed_empty, descend_queue}
 use Rattle.laws.proofs.TiedLaws.{tied_perm}
-use Rattle.ring.specs.Legs.{Stops}
 use Rattle.queue.specs.Lines.{InLine}
 use Rattle.loads.specs.Lying.{Lies}
 use Rattle.descent.specs.Handed.{manner_of}
-use Rattle.refusals.specs.Lending.{lending, carrying}
+use Rattle.refusals.specs.Lending.{carrying}
 use Rattle.walks.specs.Walking.{Tally, tallying, begun, renewed, Given, Desk, Works, Holds, Rests, bare, walk_in, Goes, told, Shook, Dives}
 use Rattle.walks.proofs.HoldLaws.{after, given_after, works_full, works_loaded, holds_sound}
 use Rattle.walks.proofs.JudgeLaws.{empty_loads}

@@ -11,7 +11,7 @@ use Rattle.rules.specs.Words.{Legs, Place}
 use Rattle.rules.specs.Lists.{when◌then◌else◌, at}
 use Rattle.rules.specs.Draws.{Span, ◌to◌, draws}
 use Rattle.rules.specs.Journal.{Track, track_of, entries_of, doing, swap}
-use Rattle.rules.specs.Kicks.{Kicked, kick, kicked, kicked_state, kind_at, longest, spans, global_spans, shuffle_spans, global_kick, segment_kick, shuffle_kick, shuffled}
+use Rattle.rules.specs.Kicks.{Kicked, kick, kicked, kicked_state, kind_at, longest, spans, global_spans, global_kick, segment_kick, shuffle_kick, shuffled}
 use Rattle.rules.specs.Plan.{leg_in}
 use Rattle.rules.specs.State.{State}
 use Rattle.rules.specs.Search.{Shaken, shaken}
@@ -19,7 +19,7 @@ use Rattle.rules.specs.Memory.{Lent, Carried, state_in}
 use Rattle.laws.proofs.ChoiceLaws.{either_way}
 use Rattle.laws.proofs.JournalLaws.{entries_of_length}
 use Rattle.laws.proofs.SpanLaws.{InSpans, kick_draws, shuffle_in}
-use Rattle.walks.specs.Walking.{Works, Holds, Shook}
+use Rattle.walks.specs.Walking.{Works, Shook}
 
 -- a swap for each draw at most
 shuffled_few : (start : Place) (vs : List ℕ) (t : Track) → length (shuffled start vs t).journal ≤ length t.journal + length vs

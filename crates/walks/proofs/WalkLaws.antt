@@ -3,7 +3,7 @@ use Prim.Native.Nat.{ℕ, zero, suc, ◌+◌, ◌-◌, ◌/◌, ◌≤◌, ◌<�
 use mathlib.Core.Path.{◌≡◌, refl, sym, ap, ap₂, subst, ◌∙◌}
 use mathlib.Core.Logic.{◌≢◌}
 use mathlib.Core.Bool.{Bool, true, false, ◌&&◌, ◌||◌}
-use mathlib.Core.List.{List, []}
+use mathlib.Core.List.{List}
 use native.Mathlib.Nat.{le_refl}
 use native.Mathlib.Omega.{arith}
 use borrow.Author.Tests.{eqb-false, lt-ltb, le-ltb}
@@ -15,9 +15,9 @@ use Rattle.rules.specs.Ring.{recount}
 use Rattle.rules.specs.Plan.{Plan, leg_of}
 use Rattle.rules.specs.Draws.{drawn, moved}
 use Rattle.rules.specs.Descend.{kept, committed, descend}
-use Rattle.rules.specs.State.{State, load}
+use Rattle.rules.specs.State.{load}
 use Rattle.rules.specs.Start.{start_round}
-use Rattle.rules.specs.Search.{Settings, Walk, Answer, margin, restart_after, stop_after, shaken, kicked_once, restarted, turned, turns, search_from, search}
+use Rattle.rules.specs.Search.{Settings, Walk, margin, restart_after, stop_after, shaken, kicked_once, restarted, turned, turns, search_from, search}
 use Rattle.rules.specs.Memory.{Lent, room_in, plan_in}
 use Rattle.rules.specs.Calls.{settings_in}
 use Rattle.laws.proofs.ChoiceLaws.{either_way, true_false}

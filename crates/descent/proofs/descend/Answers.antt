@@ -1,5 +1,4 @@
 use Rattle.descent.proofs.RunningLaws.{descended}
-use borrow.Author.Rules.{rules}
 use Rattle.descent.proofs.descend.Goals as goal
 
 pub returns : goal.returns

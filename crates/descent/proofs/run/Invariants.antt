@@ -1,15 +1,12 @@
-use Prim.Native.Nat.{ℕ, ◌-◌, ◌/◌}
-use mathlib.Core.Path.{◌≡◌, refl, ap, ◌∙◌}
-use native.Mathlib.Omega.{arith}
+use Prim.Native.Nat.{◌/◌}
+use mathlib.Core.Path.{◌≡◌}
 use lib.ListN.{length}
 use Rattle.rules.specs.Queue.{waiting}
 use Rattle.rules.specs.Journal.{track_of}
-use Rattle.rules.specs.Plan.{leg_of}
 use Rattle.rules.specs.Descend.{descend}
 use Rattle.improve.specs.Steps.{plan_of}
 use Rattle.descent.specs.Handed.{manner_of}
-use Rattle.descent.proofs.RunningLaws.{took_is, Running, starts, within_room, has_room, affords, turns, empty_ends, out_ends, short_ends}
-use borrow.Author.Rules.{rules}
+use Rattle.descent.proofs.RunningLaws.{Running}
 use Rattle.descent.proofs.run.Given as goal
 
 abbrev pub invariant-stops : goal.invariant-stops

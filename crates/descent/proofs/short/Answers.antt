@@ -3,7 +3,6 @@ use Prim.Native.Nat.{◌-◌}
 use mathlib.Core.Path.{sym, ap}
 use mathlib.Core.Bool.{Bool, false}
 use lib.Dec.{ltb}
-use borrow.Author.Rules.{rules}
 use Rattle.descent.proofs.short.Goals as goal
 
 pub returns-then-keeps : goal.returns-then-keeps

@@ -1,7 +1,6 @@
 use native.Mathlib.Omega.{arith}
 use Rattle.rules.specs.Journal.{track_of}
 use Rattle.rules.specs.Queue.{waiting}
-use borrow.Author.Rules.{rules}
 use Rattle.descent.proofs.take_step.Goals as goal
 
 pub step_from-requires : goal.step_from-requires

@@ -1,4 +1,3 @@
-use borrow.Author.Rules.{rules}
 use Rattle.rules.specs.Memory.{Lent, Carried}
 use Rattle.refusals.specs.Lending.{lending, carrying}
 use Rattle.planner.proofs.PromiseLaws.{commit_refuses, commit_does}

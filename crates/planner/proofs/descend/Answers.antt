@@ -1,7 +1,6 @@
 use mathlib.Core.Path.{sym, ap, ◌∙◌}
 use mathlib.Core.Bool.{Bool}
 use native.Mathlib.Omega.{arith}
-use borrow.Author.Rules.{rules}
 use Rattle.rules.specs.Memory.{Lent, Carried}
 use Rattle.rules.specs.Numbers.{verdict, call_checks}
 use Rattle.refusals.specs.Lending.{lending, carrying}

@@ -1,7 +1,6 @@
 use Prim.Native.Nat.{◌+◌, ◌-◌}
 use mathlib.Core.Path.{refl, sym, ap, ◌∙◌}
 use native.Mathlib.Omega.{arith}
-use borrow.Author.Rules.{rules}
 use lib.IntN.{ℤ, pos, ◌+ℤ◌}
 use Rattle.rules.specs.Memory.{Lent, Carried}
 use Rattle.rules.specs.Numbers.{good_kick}

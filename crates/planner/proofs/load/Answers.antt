@@ -1,5 +1,4 @@
 use mathlib.Core.Path.{sym, ◌∙◌}
-use borrow.Author.Rules.{rules}
 use Rattle.rules.specs.Memory.{Lent, Carried}
 use Rattle.refusals.specs.Lending.{lending, carrying}
 use Rattle.refusals.proofs.PassLaws.{load_passed}

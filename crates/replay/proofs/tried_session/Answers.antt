@@ -1,4 +1,3 @@
-use borrow.Author.Rules.{rules}
 use Rattle.replay.proofs.tried_session.Goals as goal
 
 pub shape_of-start : goal.shape_of-start

@@ -4,7 +4,6 @@ use Rattle.rules.specs.Journal.{track_of}
 use Rattle.improve.specs.Steps.{plan_of}
 use Rattle.improve.proofs.StepLaws.{stepped_is, stepped_more}
 use Rattle.descent.proofs.KindLaws.{few_is, only_is, room_for}
-use borrow.Author.Rules.{rules}
 use Rattle.descent.proofs.steps.lk3_only_step.Goals as goal
 
 pub improve_both-requires : goal.improve_both-requires

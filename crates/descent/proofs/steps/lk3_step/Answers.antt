@@ -8,7 +8,6 @@ use Rattle.laws.proofs.StayLaws.{lk3_from_stays}
 use Rattle.improve.specs.Steps.{plan_of}
 use Rattle.improve.proofs.StepLaws.{stepped_is, stepped_more, stepped_first, stepped_else, still_ready, still_journalled}
 use Rattle.descent.proofs.KindLaws.{lk3_is, room_for}
-use borrow.Author.Rules.{rules}
 use Rattle.descent.proofs.steps.lk3_step.Goals as goal
 
 pub lk3_from-a-requires : goal.lk3_from-a-requires

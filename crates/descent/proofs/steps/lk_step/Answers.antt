@@ -8,7 +8,6 @@ use Rattle.laws.proofs.StayLaws.{lk_from_stays}
 use Rattle.improve.specs.Steps.{plan_of}
 use Rattle.improve.proofs.StepLaws.{stepped_is, stepped_more, stepped_first, stepped_else, still_ready, still_journalled}
 use Rattle.descent.proofs.KindLaws.{lk_is, room_for}
-use borrow.Author.Rules.{rules}
 use Rattle.descent.proofs.steps.lk_step.Goals as goal
 
 pub lk_from-a-requires : goal.lk_from-a-requires

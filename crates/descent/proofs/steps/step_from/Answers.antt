@@ -5,7 +5,6 @@ use Rattle.rules.specs.Journal.{track_of}
 use Rattle.rules.specs.Descend.{step_from}
 use Rattle.improve.specs.Steps.{plan_of}
 use Rattle.improve.proofs.StepLaws.{stepped_is}
-use borrow.Author.Rules.{rules}
 use Rattle.descent.proofs.steps.step_from.Goals as goal
 
 pub lk_step-requires : goal.lk_step-requires

@@ -1,6 +1,5 @@
 use Prim.Native.Nat.{◌≤◌}
 use native.Mathlib.Omega.{arith}
-use borrow.Author.Rules.{rules}
 use native.Mathlib.Nat.{mul-le-mul}
 use Rattle.lending.proofs.plan.put_leg.Goals as goal
 

@@ -32,7 +32,7 @@ pub loop-j-smaller : goal.loop-j-smaller
 loop-j-smaller c = omega arith
 
 pub loop-j-preserved : goal.loop-j-preserved
-loop-j-preserved c = (omega arith, sym (row_turn (bits_of c.args.s.now) c.args.at c.args.n c.args.k c.args.v c.loop-j.j c.read12-e.result c.loop-j-test.true c.read12-e.ensures.is c.if-n-e.false c.if-e-v.false) ∙ c.loop-j.invariant.1)
+loop-j-preserved c = (omega arith, sym (row_turn (bits_of c.args.s.now) c.args.at c.args.n c.args.k c.args.v c.loop-j.j c.read12-e.result c.loop-j-test.true c.read12-e.ensures.is c.if-n-e.false (λ q. omega (arith, q))) ∙ c.loop-j.invariant.1)
 
 pub returns : goal.returns
 returns c = sym (row_done (bits_of c.args.s.now) c.args.at c.args.n c.args.k c.args.v c.loop-j.j c.loop-j-test.false) ∙ c.loop-j.invariant.1

@@ -1,9 +1,6 @@
-use Prim.Native.Nat.{◌-◌, ◌≤◌}
 use mathlib.Core.Path.{refl}
 use native.Mathlib.Omega.{arith}
-use borrow.Author.Rules.{rules}
-use lib.ListN.{length}
-use Rattle.walks.proofs.CopyLaws.{Copied, copied_starts, copied_turn, copied_done}
+use Rattle.walks.proofs.CopyLaws.{copied_starts, copied_turn, copied_done}
 use Rattle.walks.proofs.rounds.copy_round.Goals as goal
 
 pub loop-i-init : goal.loop-i-init

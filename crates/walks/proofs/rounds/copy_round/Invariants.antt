@@ -1,9 +1,6 @@
 use Prim.Native.Nat.{◌-◌, ◌≤◌}
-use mathlib.Core.Path.{refl}
-use native.Mathlib.Omega.{arith}
-use borrow.Author.Rules.{rules}
 use lib.ListN.{length}
-use Rattle.walks.proofs.CopyLaws.{Copied, copied_starts, copied_turn, copied_done}
+use Rattle.walks.proofs.CopyLaws.{Copied}
 use Rattle.walks.proofs.rounds.copy_round.Given as goal
 
 abbrev pub invariant-loop-i : goal.invariant-loop-i

@@ -1,7 +1,5 @@
 use mathlib.Core.Path.{refl}
 use native.Mathlib.Omega.{arith}
-use borrow.Author.Rules.{rules}
-use Rattle.loads.specs.Lying.{Laid}
 use Rattle.loads.proofs.UndoLaws.{back_laid}
 use Rattle.walks.proofs.rounds.settle.Goals as goal
 

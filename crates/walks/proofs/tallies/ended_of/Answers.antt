@@ -1,6 +1,5 @@
 use mathlib.Core.Path.{refl}
-use native.Mathlib.Omega.{arith}
-use borrow.Author.Tests.{eq-eqb, ne_eqb, lt-ltb, le-ltb}
+use borrow.Author.Tests.{eq-eqb, ne_eqb}
 use Rattle.walks.proofs.tallies.ended_of.Goals as goal
 
 pub returns-then-left-eq0 : goal.returns-then-left-eq0

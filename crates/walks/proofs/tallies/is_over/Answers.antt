@@ -1,7 +1,6 @@
 use Rattle.walks.specs.Walking.{over}
 use mathlib.Core.Path.{refl}
-use native.Mathlib.Omega.{arith}
-use borrow.Author.Tests.{eq-eqb, ne_eqb, lt-ltb, le-ltb}
+use borrow.Author.Tests.{eq-eqb, ne_eqb}
 use Rattle.walks.proofs.tallies.is_over.Goals as goal
 
 pub returns-then-left-eq0 : goal.returns-then-left-eq0

@@ -1,8 +1,5 @@
 use Rattle.rules.specs.Search.{restart_after, stop_after}
-use mathlib.Core.Path.{refl}
 use native.Mathlib.Omega.{arith}
-use borrow.Author.Tests.{eq-eqb, ne_eqb, lt-ltb, le-ltb}
-use borrow.Author.Rules.{rules}
 use Rattle.walks.proofs.tallies.stop_after.Goals as goal
 
 pub returns-then-w-lt100000 : goal.returns-then-w-lt100000

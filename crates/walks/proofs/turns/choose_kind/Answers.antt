@@ -5,7 +5,6 @@ use borrow.Author.Tests.{eq-eqb, ne_eqb}
 use lib.Dec.{eqb}
 use Rattle.rules.specs.Draws.{moved, drawn}
 use Rattle.walks.specs.Walking.{kind_of}
-use borrow.Author.Rules.{rules}
 use Rattle.walks.proofs.turns.choose_kind.Goals as goal
 
 pub returns-then-first-eq0 : goal.returns-then-first-eq0

@@ -1,8 +1,7 @@
 use native.Mathlib.Omega.{arith}
 use Rattle.rules.specs.Journal.{entries_of, undo_all}
-use Rattle.walks.specs.Walking.{Tally, tallying}
+use Rattle.walks.specs.Walking.{tallying}
 use Rattle.walks.proofs.JudgeLaws.{lesser_low, judge_done}
-use borrow.Author.Rules.{rules}
 use Rattle.walks.proofs.turns.judge.Goals as goal
 
 pub overflow_sub-accept : goal.overflow_sub-accept

@@ -1,12 +1,11 @@
 use mathlib.Core.Bool.{true}
-use mathlib.Core.Path.{sym, ◌∙◌}
+use mathlib.Core.Path.{◌∙◌}
 use native.Mathlib.Omega.{arith}
 use Rattle.rules.specs.Memory.{Lent, Carried}
 use Rattle.refusals.specs.Lending.{lending, carrying}
 use Rattle.walks.specs.Walking.{Works, Given}
 use Rattle.walks.proofs.HoldLaws.{after, Same, works_bare, works_full, given_after, handed, good_round, fits_round, carried_round, descend_dives}
 use Rattle.walks.proofs.DiveLaws.{dives}
-use borrow.Author.Rules.{rules}
 use Rattle.walks.proofs.turns.kick_and_descend.Goals as goal
 
 pub choose_kind-this-requires : goal.choose_kind-this-requires

@@ -4,7 +4,6 @@ use Rattle.rules.specs.Memory.{Lent, Carried}
 use Rattle.refusals.specs.Lending.{carrying}
 use Rattle.walks.specs.Walking.{bare}
 use Rattle.walks.proofs.HoldLaws.{Same, kick_ready, time_small, kick_counts, kick_shook}
-use borrow.Author.Rules.{rules}
 use Rattle.walks.proofs.turns.kick_on.Goals as goal
 
 pub kick-k-requires : goal.kick-k-requires

@@ -4,7 +4,6 @@ use Rattle.refusals.specs.Lending.{lending, carrying}
 use Rattle.walks.specs.Walking.{Tally, tallying}
 use Rattle.walks.proofs.HoldLaws.{after, given_after, good_round}
 use Rattle.walks.proofs.JudgeLaws.{turn_goes}
-use borrow.Author.Rules.{rules}
 use Rattle.walks.proofs.turns.kick_turn.Goals as goal
 
 pub kick_and_descend-d-requires : goal.kick_and_descend-d-requires

@@ -5,7 +5,6 @@ use Rattle.refusals.specs.Lending.{carrying}
 use Rattle.walks.specs.Walking.{bare, Works}
 use Rattle.walks.proofs.HoldLaws.{Same, desk_after}
 use Rattle.walks.proofs.RestartLaws.{lies_works, lies_shook}
-use borrow.Author.Rules.{rules}
 use Rattle.walks.proofs.turns.reshape.Goals as goal
 
 pub load_round-time-requires : goal.load_round-time-requires

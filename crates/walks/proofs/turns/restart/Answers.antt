@@ -5,7 +5,6 @@ use Rattle.refusals.specs.Lending.{lending, carrying}
 use Rattle.walks.specs.Walking.{Tally, tallying, renewed, Works, Given}
 use Rattle.walks.proofs.HoldLaws.{after, Same, works_bare, works_full, given_after, handed, good_round, fits_round, carried_round, descend_dives}
 use Rattle.walks.proofs.RestartLaws.{restart_goes}
-use borrow.Author.Rules.{rules}
 use Rattle.walks.proofs.turns.restart.Goals as goal
 
 pub reshape-at-requires : goal.reshape-at-requires

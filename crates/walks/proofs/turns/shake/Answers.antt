@@ -1,14 +1,8 @@
-use Prim.Native.Nat.{◌-◌}
-use mathlib.Core.Path.{refl, sym, ◌∙◌}
+use mathlib.Core.Path.{refl, ◌∙◌}
 use native.Mathlib.Omega.{arith}
-use borrow.Author.Rules.{rules}
-use Rattle.rules.specs.Plan.{leg_in}
-use Rattle.rules.specs.Memory.{state_in}
-use Rattle.rules.specs.Search.{shaken}
 use Rattle.refusals.specs.Lending.{carrying}
 use Rattle.walks.specs.Walking.{bare}
-use Rattle.walks.proofs.HoldLaws.{Same}
-use Rattle.walks.proofs.ShakeLaws.{Shaking, shaking_starts, shaking_room, shaking_turn, shaking_done}
+use Rattle.walks.proofs.ShakeLaws.{shaking_starts, shaking_room, shaking_turn, shaking_done}
 use Rattle.walks.proofs.turns.shake.Goals as goal
 
 pub loop-i-init : goal.loop-i-init

@@ -3,7 +3,6 @@ use Rattle.rules.specs.Memory.{Lent}
 use Rattle.refusals.specs.Lending.{lending}
 use Rattle.walks.specs.Walking.{Tally, tallying}
 use Rattle.walks.proofs.WalkLaws.{turn_kicks, turn_restarts}
-use borrow.Author.Rules.{rules}
 use Rattle.walks.proofs.turns.turn.Goals as goal
 
 pub restart_after-requires : goal.restart_after-requires
