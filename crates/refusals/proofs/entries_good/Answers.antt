@@ -44,7 +44,7 @@ returns-then-e-v c =
 pub loop-i-preserved : goal.loop-i-preserved
 loop-i-preserved c =
     let wide = c.wide-e in
-    (omega (arith, c.loop-i-test.true), below_more _ _ c.loop-i.invariant.1 (omega (arith, wide.ensures, c.if-n-e.false), λ e. c.if-e-v.false (wide.ensures ∙ e)))
+    (omega (arith, c.loop-i-test.true), below_more _ _ c.loop-i.invariant.1 (omega (arith, wide.ensures, c.if-n-e.false), λ e. omega (arith, wide.ensures, e)))
 
 pub returns : goal.returns
 returns c =
