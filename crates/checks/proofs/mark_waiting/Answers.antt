@@ -48,7 +48,7 @@ loop-i-preserved c =
     let l : lp.i < length q = omega (arith, h, waiting_length a.queue.now a.head a.count c.requires.count_in_bounds) in
     let e = lp.invariant.1.1.1.0 in
     let v = here in
-    let down : at lp.marks c.wide-v.result ≡ 0 = omega (arith, c.if-marks-v-ne0.false) in (
+    let down : at lp.marks c.wide-v.result ≡ 0 = omega arith in (
       simp length-set lp.invariant.0,
       (
         search rules,

@@ -18,16 +18,16 @@ pub take_step-g-requires : goal.take_step-g-requires
 take_step-g-requires c = let s = c.stops in let run = s.invariant.0 in record { handed = run.handed; count_nonzero = c.stops-test.true; journalled = has_room run c.short-full.result refl c.requires.in_bounds c.short-full.ensures c.if-full.false; step_bound = c.requires.step_bound }
 
 pub overflow_sub-left : goal.overflow_sub-left
-overflow_sub-left c = omega (arith, c.if-left-eq0.false)
+overflow_sub-left c = omega arith
 
 pub overflow_sub-carried : goal.overflow_sub-carried
 overflow_sub-carried c = let a = c.args in let s = c.stops in let run = s.invariant.0 in affords run c.requires.fit (took_is (ap (λ (m : ℕ). plan_of m a.matrix.now a.k a.near.now a.ka a.alpha.now) run.round_long) c.take_step-g.ensures)
 
 pub stops-smaller : goal.stops-smaller
-stops-smaller c = omega (arith, c.if-left-eq0.false)
+stops-smaller c = omega arith
 
 pub stops-preserved : goal.stops-preserved
-stops-preserved c = let a = c.args in let n = length a.round.now in let p = plan_of n a.matrix.now a.k a.near.now a.ka a.alpha.now in let s = c.stops in let run = s.invariant.0 in (turns run c.requires.fit (took_is (ap (λ (m : ℕ). plan_of m a.matrix.now a.k a.near.now a.ka a.alpha.now) run.round_long) c.take_step-g.ensures) c.short-full.result (s.left - 1) c.kept-h-in-stops.result (omega (arith, c.if-left-eq0.false)) c.short-full.ensures c.if-full.false c.kept-h-in-stops.ensures c.round-1.given c.journal-1.given c.scratch-1.given c.queue-1.given, (c.places-1.given ∙ s.invariant.1.0, (c.scratch-1.given ∙ s.invariant.1.1.0, (c.queue-1.given ∙ s.invariant.1.1.1.0, c.flags-1.given ∙ s.invariant.1.1.1.1))))
+stops-preserved c = let a = c.args in let n = length a.round.now in let p = plan_of n a.matrix.now a.k a.near.now a.ka a.alpha.now in let s = c.stops in let run = s.invariant.0 in (turns run c.requires.fit (took_is (ap (λ (m : ℕ). plan_of m a.matrix.now a.k a.near.now a.ka a.alpha.now) run.round_long) c.take_step-g.ensures) c.short-full.result (s.left - 1) c.kept-h-in-stops.result (omega arith) c.short-full.ensures c.if-full.false c.kept-h-in-stops.ensures c.round-1.given c.journal-1.given c.scratch-1.given c.queue-1.given, (c.places-1.given ∙ s.invariant.1.0, (c.scratch-1.given ∙ s.invariant.1.1.0, (c.queue-1.given ∙ s.invariant.1.1.1.0, c.flags-1.given ∙ s.invariant.1.1.1.1))))
 
 pub shape_of-round-after-stops : goal.shape_of-round-after-stops
 shape_of-round-after-stops c = c.stops.invariant.0.round_long
@@ -90,4 +90,4 @@ pub shape_of-journal-then-full : goal.shape_of-journal-then-full
 shape_of-journal-then-full c = c.stops.invariant.0.journal_long
 
 pub returns-then-full : goal.returns-then-full
-returns-then-full c = let s = c.stops in let run = s.invariant.0 in short_ends run c.short-full.result c.stops-test.true (omega (arith, c.if-left-eq0.false)) c.short-full.ensures c.if-full.true
+returns-then-full c = let s = c.stops in let run = s.invariant.0 in short_ends run c.short-full.result c.stops-test.true (omega arith) c.short-full.ensures c.if-full.true

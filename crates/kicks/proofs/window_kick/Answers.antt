@@ -28,7 +28,7 @@ pub returns : goal.returns
 returns c =
     let a = c.args in
     let n : ℕ = length a.round.now in
-    let big : 32 ≤ n = omega (arith, c.if-n-lt32.false) in
+    let big : 32 ≤ n = omega arith in
     let left : c.draw-left.result ≡ drawn 0 (n - 30) (moved a.state.now) = rw (← c.narrow.ensures) (omega (arith, c.draw-left.ensures.is)) in
     let first : c.prev-first.result ≡ prevOf n c.draw-left.result = rw (← c.wide.ensures) (omega (arith, c.prev-first.ensures.is)) in
     window_made (leg_in n a.matrix.now) a.round.now a.journal.now a.held a.state.now c.draw-left.new.state c.draw-left.result c.prev-first.result big c.draw-left.ensures.state c.draw-left.ensures.some left first c.shuffle-h.ensures c.push_places-l.ensures (rw c.shuffle-h.auto.round at c.path_cost-added.ensures) c.path_cost-removed.ensures

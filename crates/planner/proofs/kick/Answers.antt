@@ -1,6 +1,7 @@
 use Prim.Native.Nat.{◌+◌, ◌-◌}
 use mathlib.Core.Path.{refl, sym, ap, ◌∙◌}
 use native.Mathlib.Omega.{arith}
+use borrow.Author.Rules.{rules}
 use lib.IntN.{ℤ, pos, ◌+ℤ◌}
 use Rattle.rules.specs.Memory.{Lent, Carried}
 use Rattle.rules.specs.Numbers.{good_kick}
@@ -16,9 +17,9 @@ use Rattle.planner.proofs.kick.Goals as goal
 pub returns-then-number-ne0 : goal.returns-then-number-ne0
 returns-then-number-ne0 c =
     let a = c.args in
-    let kick-number = c.kick_number-number in
-    let l : Lent = (lending a.n a.k a.ka a.matrix.now a.near.now a.alpha.now a.round.now a.places.now a.queue.now a.flags.now a.scratch.now a.journal.now) in
-    let s : Carried = (carrying a.state.head a.state.count a.state.held a.state.time) in kick_refuses l s a.kind a.draw.now kick-number.result kick-number.ensures c.if-number-ne0.true
+    let l : Lent = lending a.n a.k a.ka a.matrix.now a.near.now a.alpha.now a.round.now a.places.now a.queue.now a.flags.now a.scratch.now a.journal.now in
+    let s : Carried = carrying a.state.head a.state.count a.state.held a.state.time in
+    kick_refuses l s a.kind a.draw.now _ (search rules) c.if-number-ne0.true
 
 pub kick-k-requires : goal.kick-k-requires
 kick-k-requires c =

@@ -30,6 +30,6 @@ unfolding around
 returns c =
     let a = c.args in
     let w = c.wide-s.ensures in
-    let e : at a.flags.now c.wide-s.result ≡ 0 = omega (arith, c.if-f-gt0.false) in
+    let e : at a.flags.now c.wide-s.result ≡ 0 = omega arith in
     let h = line_gone a.queue.now a.flags.now a.line.head a.line.count c.requires.in_line a.v.0 c.requires.v_in_bounds (rw w at e) in
     rw (w, c.wrap-at.ensures.is) (line_pushed a.queue.now a.flags.now a.line.head a.line.count c.requires.in_line a.v.0 c.requires.v_in_bounds h)

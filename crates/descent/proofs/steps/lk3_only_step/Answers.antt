@@ -18,4 +18,4 @@ lk3_from-requires c = let h = c.requires.handed in record { ready = h.ready; le_
 
 pub returns : goal.returns
 unfolding track_of
-returns c = let a = c.args in let t = track_of a.round.now a.journal.now a.held in let p = plan_of (length a.round.now) a.matrix.now a.k a.near.now a.ka a.alpha.now in stepped_is (only_is p a.v.0 t (omega (arith, c.if-round-lt5.false))) c.lk3_from.ensures
+returns c = let a = c.args in let t = track_of a.round.now a.journal.now a.held in let p = plan_of (length a.round.now) a.matrix.now a.k a.near.now a.ka a.alpha.now in stepped_is (only_is p a.v.0 t (omega arith)) c.lk3_from.ensures

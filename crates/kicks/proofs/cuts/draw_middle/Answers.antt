@@ -22,7 +22,7 @@ returns-then-kind-eq0 c =
 pub returns : goal.returns
 returns c =
     let a = c.args in
-    let e : eqb a.kind 0 ≡ false = ne_eqb a.kind 0 c.if-kind-eq0.false in
+    let e : eqb a.kind 0 ≡ false = ne_eqb a.kind 0 (λ q. omega (arith, q)) in
     record {
       state = rw e refl;
       is = rw e refl;

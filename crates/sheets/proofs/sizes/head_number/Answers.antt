@@ -1,3 +1,4 @@
+use native.Mathlib.Omega.{arith}
 use Rattle.sheets.specs.Sheet.{header_of}
 use Rattle.sheets.proofs.SizeLaws.{head_version, head_spare, head_low, head_high, head_good}
 use Rattle.sheets.proofs.sizes.head_number.Goals as goal
@@ -15,4 +16,4 @@ pub returns-then-h-gt128 : goal.returns-then-h-gt128
 returns-then-h-gt128 c = head_high (header_of c.args.h) c.if-h-ne1.false c.if-h-ne0.false c.if-h-lt2.false c.if-h-gt128.true
 
 pub returns : goal.returns
-returns c = head_good (header_of c.args.h) c.if-h-ne1.false c.if-h-ne0.false c.if-h-lt2.false c.if-h-gt128.false
+returns c = head_good (header_of c.args.h) c.if-h-ne1.false (omega arith) c.if-h-lt2.false c.if-h-gt128.false
