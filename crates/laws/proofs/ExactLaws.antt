@@ -16,6 +16,8 @@ use Rattle.laws.proofs.InLaws.{In, top, down, in_some, in_past, Up, up_rising, u
 use Rattle.laws.proofs.WithoutLaws.{without_first}
 use Rattle.laws.proofs.OrderLaws.{Order, none, next, order_length, order_self, later, order_round, round_order, before_self, before_before, Sorted, round_in, in_round, rounds_sorted}
 
+-- ---- of two lists of which each stands before the other, or is it, both are one
+-- the first stop of a list, and those behind it
 head_of : List Stop → Stop
 head_of [] = 0
 head_of (a ∷ p) = a
@@ -24,6 +26,7 @@ tail_of : List Stop → List Stop
 tail_of [] = []
 tail_of (a ∷ p) = p
 
+-- the same, said of four lists and of which are equal: a match on equal lists themselves would have to delete an equation
 before_and_after : {p q r s : List Stop} → Before p q → Before r s → p ≡ s → q ≡ r → p ≡ q
 unfolding head_of tail_of
 before_and_after same h e f = refl
@@ -34,7 +37,6 @@ before_and_after (more h) same e f = absurd (omega (arith, ap length e))
 before_and_after (more h) (less k) e f = absurd (omega (arith, ap head_of e, ap head_of f))
 before_and_after (more {a = a} h) (more k) e f = ap (λ (t : List Stop). a ∷ t) (before_and_after h k (ap tail_of e) (ap tail_of f))
 
--- of two lists of which each stands before the other, or is it, both are one
 pub before_both : {p q : List Stop} → Before p q → Before q p → p ≡ q
 before_both h k = before_and_after h k refl refl
 

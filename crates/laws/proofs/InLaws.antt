@@ -34,6 +34,7 @@ module _ {A : Type 0} where
   in_either (y ∷ l) top = inl top
   in_either (y ∷ l) (down h) = ⊎_elim (λ z. inl (down z)) (λ z. inr z) (in_either l h)
 
+  -- what is in a list is its first, or behind it
   first_or_rest : {x y : A} {l : List A} → In x (y ∷ l) → (x ≡ y) ⊎ In x l
   first_or_rest top = inl refl
   first_or_rest (down h) = inr h

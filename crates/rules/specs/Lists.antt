@@ -1,6 +1,7 @@
 -- Choices and lists that the rules are written with. Assumes nothing.
 use Rattle.std.specs.Prelude.{ℕ, zero, suc, ◌+◌, Bool, true, false, not, ◌&&◌, List, [], ◌∷◌, ◌++◌, eqb, get_or}
 
+-- one of two, by a test: the one that is not taken waits, so that a rule may call itself there (the library's `if .. then .. else` computes both)
 infix 20 when◌then◌else◌
 abbrev pub when◌then◌else◌ : {A : Type 0} → Bool → A → A → A
 when c then a else b = elim c [ true ↦ a | false ↦ b ]
