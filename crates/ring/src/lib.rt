@@ -1,7 +1,7 @@
-// The round and its places: neighbours, legs, recount; reversal, rotation and swap.
+// The round and its places: neighbours, legs, recount.
 
 #![tactic(auto)]
 
 pub mod places;
-pub mod stops;
+pub mod round;
 pub mod times;

@@ -33,21 +33,8 @@ pub fn on_way(a: u32, b: u32, c: u32) -> bool
     ensures { result ≡ on_way_of a b c }
 {
     if a <= c {
-        if a <= b {
-            return b <= c;
-        }
-        return false;
+        a <= b && b <= c
+    } else {
+        a <= b || b <= c
     }
-    if a <= b {
-        return true;
-    }
-    b <= c
-}
-
-// A place as a word.
-pub fn narrow(i: usize) -> u32
-    requires { i ≤ 4096 }
-    ensures { result ≡ i }
-{
-    i as u32
 }

@@ -6,14 +6,14 @@ pub returns-then-a-b : goal.returns-then-a-b
 unfolding on_way
 returns-then-a-b c = simp (le-leb _ _ c.if-a-c.true, le-leb _ _ c.if-a-b.true)
 
-pub returns-then-a-c : goal.returns-then-a-c
+pub returns-else-a-b : goal.returns-else-a-b
 unfolding on_way
-returns-then-a-c c = simp (le-leb _ _ c.if-a-c.true, lt-leb _ _ c.if-a-b.false)
+returns-else-a-b c = simp (le-leb _ _ c.if-a-c.true, lt-leb _ _ c.if-a-b.false)
 
 pub returns-then-a-b-2 : goal.returns-then-a-b-2
 unfolding on_way
 returns-then-a-b-2 c = simp (lt-leb _ _ c.if-a-c.false, le-leb _ _ c.if-a-b-2.true)
 
-pub returns : goal.returns
+pub returns-else-a-b-2 : goal.returns-else-a-b-2
 unfolding on_way
-returns c = simp (lt-leb _ _ c.if-a-c.false, lt-leb _ _ c.if-a-b-2.false)
+returns-else-a-b-2 c = simp (lt-leb _ _ c.if-a-c.false, lt-leb _ _ c.if-a-b-2.false)

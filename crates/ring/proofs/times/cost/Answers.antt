@@ -1,5 +1,5 @@
 use Prim.Native.Nat.{ℕ}
-use mathlib.Core.Path.{◌≡◌, ap, ◌∙◌}
+use mathlib.Core.Path.{◌≡◌, ap, ◌∙◌, subst, sym}
 use native.Mathlib.Omega.{arith}
 use lib.ListN.{length}
 use Rattle.rules.specs.Lists.{at}
@@ -15,19 +15,17 @@ returns-then-n-lt2 c = record { is = cost_none _ c.args.round.now c.if-n-lt2.tru
 pub loop-i-init : goal.loop-i-init
 loop-i-init c = (search rules, (search rules, cost_starts _ c.args.round.now c.if-n-lt2.false))
 
-pub dist-sum-requires : goal.dist-sum-requires
-dist-sum-requires c =
-    let s = c.requires.stops in record { square = c.requires.square; a_lt_n = s.below c.loop-i.i c.loop-i-test.true; b_lt_n = s.below c.next-j.result c.next-j.ensures.below }
-
 pub loop-i-preserved : goal.loop-i-preserved
 loop-i-preserved c =
     let r = c.args.round.now in
-    let d = leg_in (length r) c.args.matrix.now in
-    let e : c.dist-sum.result ≡ d (at r c.loop-i.i) (at r (next (length r) c.loop-i.i)) = c.dist-sum.ensures.is ∙ ap (λ (m : ℕ). d (at r c.loop-i.i) (at r m)) c.next-j.ensures.is in
-    (search rules, (search rules, omega (arith, e, cost_turn d r c.loop-i.i c.loop-i-test.true, c.loop-i.invariant.1.1)))
+    let m = c.args.matrix.now.times.now in
+    let d = leg_in (length r) m in
+    let i = c.loop-i.i in
+    let e : c.dist-sum.result ≡ d (at r i) (at r (next (length r) i)) = c.dist-sum.ensures.is ∙ ap (λ (n : ℕ). leg_in n m (at r i) (at r c.next.result)) c.requires.size ∙ ap (λ (j : ℕ). d (at r i) (at r j)) c.next.ensures.is in
+    (search rules, (search rules, omega (arith, e, cost_turn d r i c.loop-i-test.true, c.loop-i.invariant.1.1)))
 
 pub returns : goal.returns
 returns c =
     let r = c.args.round.now in
-    let d = leg_in (length r) c.args.matrix.now in
+    let d = leg_in (length r) c.args.matrix.now.times.now in
     record { is = omega (arith, c.loop-i.invariant.1.1, cost_done d r c.loop-i.i c.loop-i-test.false); small = omega (arith, c.loop-i.invariant.1.0, c.loop-i.invariant.0) }

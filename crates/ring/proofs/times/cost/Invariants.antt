@@ -8,8 +8,4 @@ use Rattle.ring.proofs.times.cost.Given as goal
 
 abbrev pub invariant-loop-i : goal.invariant-loop-i
 invariant-loop-i l =
-    (l.i ≤ length l.round) × ((l.sum ≤ 65535 * l.i) × (l.sum + rest (leg_in (length l.round) l.matrix) (closed l.round) l.i ≡ recount (leg_in (length l.round) l.matrix) l.round))
-
-abbrev pub decreases-loop-i : goal.decreases-loop-i
-decreases-loop-i l =
-    length l.round - l.i
+    (l.i ≤ length l.round) × ((l.sum ≤ 65535 * l.i) × (l.sum + rest (leg_in (length l.round) l.matrix.times.now) (closed l.round) l.i ≡ recount (leg_in (length l.round) l.matrix.times.now) l.round))

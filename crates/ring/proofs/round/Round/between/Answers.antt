@@ -1,5 +1,5 @@
 use Rattle.rules.specs.Ring.{between}
-use Rattle.ring.proofs.stops.between.Goals as goal
+use Rattle.ring.proofs.round.Round.between.Goals as goal
 
 pub returns : goal.returns
 unfolding between
