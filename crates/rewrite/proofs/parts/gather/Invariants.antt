@@ -4,7 +4,7 @@ use mathlib.Core.List.{◌++◌}
 use lib.ListN.{length, take, drop}
 use Rattle.rules.specs.Ring.{turn}
 use Rattle.ring.specs.Around.{around}
-use Rattle.rewrite.proofs.gather.Given as goal
+use Rattle.rewrite.proofs.parts.gather.Given as goal
 
 abbrev pub invariant-loop-k : goal.invariant-loop-k
 invariant-loop-k l =

@@ -9,7 +9,7 @@ use Rattle.laws.proofs.TurnLaws.{turn_length}
 use Rattle.ring.proofs.TurnAtLaws.{at_turn}
 use Rattle.rewrite.proofs.WriteLaws.{gather_turn}
 use borrow.Author.Rules.{rules}
-use Rattle.rewrite.proofs.gather.Goals as goal
+use Rattle.rewrite.proofs.parts.gather.Goals as goal
 
 pub loop-k-init : goal.loop-k-init
 loop-k-init c =

@@ -1,7 +1,7 @@
 use borrow.Author.Tests.{le-leb, lt-leb}
 use Rattle.rules.specs.Rewrite.{len_of}
 use borrow.Author.Rules.{rules}
-use Rattle.rewrite.proofs.len_of.Goals as goal
+use Rattle.rewrite.proofs.parts.len_of.Goals as goal
 
 pub returns-then-start-end : goal.returns-then-start-end
 unfolding len_of
