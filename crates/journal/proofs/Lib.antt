@@ -1,2 +1,3 @@
 pub mod GrewLaws
+mod KindLaws
 mod MoveLaws

@@ -1,1 +1,3 @@
 pub mod Journalled
+pub mod Kinds
+pub mod Tracks

@@ -1,0 +1,16 @@
+-- A round with its places and its journal, moved in place. Assumes nothing.
+use Rattle.std.specs.Prelude.{ℕ, ◌≡◌, length}
+use Rattle.rules.specs.Journal.{Track as TrackOf, track_of}
+use Rattle.journal.specs.declared.track.Track.{Track}
+
+-- the track that is there
+abbrev pub track_in : Track → TrackOf
+track_in t = track_of t.stops.now t.journal.now t.held
+
+-- the same memory
+pub record SameTrack (a b : Track) : Type 0 where
+  pub same_stops : b.stops.ghost_name ≡ a.stops.ghost_name
+  pub same_places : b.places.ghost_name ≡ a.places.ghost_name
+  pub same_journal : b.journal.ghost_name ≡ a.journal.ghost_name
+  pub size : length b.stops.now ≡ length a.stops.now
+  pub room : length b.journal.now ≡ length a.journal.now
