@@ -57,11 +57,11 @@ moved_none r j held r' ps' g is tied =
       high = omega arith;
     }
 
--- a turn of `rollback`: `left` entries past the mark are still to go
-pub back_turn : (r r' : Round) (ws : List ℕ) (mark left : ℕ) (goal : Track) → 0 < left → r' ≡ take_back (entry_at ws (mark + (left - 1))) r
-    → rollback mark (track_of r ws (mark + left)) ≡ goal → rollback mark (track_of r' ws (mark + (left - 1))) ≡ goal
+-- a turn of `rollback`: the entries from the mark up to i are still to go
+pub back_turn : (r r' : Round) (ws : List ℕ) (mark i : ℕ) (goal : Track) → mark < i → r' ≡ take_back (entry_at ws (i - 1)) r
+    → rollback mark (track_of r ws i) ≡ goal → rollback mark (track_of r' ws (i - 1)) ≡ goal
 unfolding track_of entries_of
-back_turn r r' ws mark left goal h is e =
-    let k : ℕ = mark + (left - 1) in
-    let q : mark + left ≡ suc (mark + (left - 1)) = omega arith in
+back_turn r r' ws mark i goal h is e =
+    let k : ℕ = i - 1 in
+    let q : i ≡ suc (i - 1) = omega arith in
     rw is (sym (rollback_step mark (entry_at ws k) (entries_of ws k) r (omega (arith, entries_of_length ws k))) ∙ (rw q at e))

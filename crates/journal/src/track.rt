@@ -6,7 +6,7 @@ ghost use Rattle.rules.specs.Journal.{good_journal};
 use crate::entries::{note, take_back};
 use crate::kinds::Kind;
 use legs::Place;
-use rewrite::tour::Tour;
+use rewrite::{reverse_tour, rotate_segments, swap_raw};
 use ring::round::Round;
 
 // The round's stops, the place of each, and a journal that holds so many entries.
@@ -48,8 +48,7 @@ impl<'a> Track<'a> {
         let held = self.held;
         let stops = &mut *self.stops;
         let places = &mut *self.places;
-        let mut tour = Tour { stops, places };
-        let span = tour.reverse_tour(start.0 as usize, end.0 as usize);
+        let span = reverse_tour(stops, places, start.0 as usize, end.0 as usize);
         if span.len < 2 {
             return;
         }
@@ -78,8 +77,7 @@ impl<'a> Track<'a> {
         let held = self.held;
         let stops = &mut *self.stops;
         let places = &mut *self.places;
-        let mut tour = Tour { stops, places };
-        tour.rotate_segments(scratch, start.0 as usize, a, b, c);
+        rotate_segments(stops, places, scratch, start.0 as usize, a, b, c);
         let journal = &mut *self.journal;
         note(
             journal,
@@ -101,13 +99,10 @@ impl<'a> Track<'a> {
         ensures same { SameTrack self.old self.new }
         ensures moved { Moved (doing (swap_of i.0 j.0) (track_in self.old)) self.old.journal.now self.old.held self.new.stops.now self.new.places.now self.new.journal.now self.new.held }
     {
-        {
-            let stops = &mut *self.stops;
-            let places = &mut *self.places;
-            let mut tour = Tour { stops, places };
-            tour.swap(i.0 as usize, j.0 as usize);
-        }
         let held = self.held;
+        let stops = &mut *self.stops;
+        let places = &mut *self.places;
+        swap_raw(stops, places, i.0 as usize, j.0 as usize);
         let journal = &mut *self.journal;
         note(journal, held, Kind::Swap, i.0, j.0, 0, 0);
         self.held = held + 1;
@@ -124,9 +119,9 @@ impl<'a> Track<'a> {
         let held = self.held;
         let stops = &mut *self.stops;
         let places = &mut *self.places;
-        let mut tour = Tour { stops, places };
-        for i in (mark..self.held).rev() {
-            take_back(&mut tour, scratch, &*self.journal, i);
+        let journal = &mut *self.journal;
+        for i in (mark..held).rev() {
+            take_back(stops, places, scratch, journal, i);
         }
         self.held = mark;
     }
