@@ -23,8 +23,7 @@ pub struct Track<'a> {
 impl<'a> Track<'a> {
     ghost use Rattle.std.specs.Prelude.{◌≡◌, ℕ, ◌+◌, ◌*◌, ◌<◌, ◌≤◌, length};
     ghost use Rattle.rules.specs.Journal.{rotation, swap as swap_of, doing, reversing};
-    ghost use Rattle.journal.specs.Tracks.{track_in, SameTrack};
-    ghost use Rattle.journal.specs.Journalled.{Moved, Back};
+    ghost use Rattle.journal.specs.Tracks.{track_in, SameTrack, Moves, Rolls};
 
     // The round, to be read.
     pub fn round(&self) -> Round<'_>
@@ -43,7 +42,7 @@ impl<'a> Track<'a> {
         requires end_low { end.0 < length self.old.stops.now }
         requires room { 5 * (self.old.held + 1) ≤ length self.old.journal.now }
         ensures same { SameTrack self.old self.new }
-        ensures moved { Moved (reversing start.0 end.0 (track_in self.old)) self.old.journal.now self.old.held self.new.stops.now self.new.places.now self.new.journal.now self.new.held }
+        ensures moved { Moves (reversing start.0 end.0 (track_in self.old)) self.old self.new }
     {
         let held = self.held;
         let stops = &mut *self.stops;
@@ -72,7 +71,7 @@ impl<'a> Track<'a> {
         requires scratch_fits { length scratch.old ≡ length self.old.stops.now }
         requires room { 5 * (self.old.held + 1) ≤ length self.old.journal.now }
         ensures same { SameTrack self.old self.new }
-        ensures moved { Moved (doing (rotation start.0 a b c) (track_in self.old)) self.old.journal.now self.old.held self.new.stops.now self.new.places.now self.new.journal.now self.new.held }
+        ensures moved { Moves (doing (rotation start.0 a b c) (track_in self.old)) self.old self.new }
     {
         let held = self.held;
         let stops = &mut *self.stops;
@@ -97,7 +96,7 @@ impl<'a> Track<'a> {
         requires j_low { j.0 < length self.old.stops.now }
         requires room { 5 * (self.old.held + 1) ≤ length self.old.journal.now }
         ensures same { SameTrack self.old self.new }
-        ensures moved { Moved (doing (swap_of i.0 j.0) (track_in self.old)) self.old.journal.now self.old.held self.new.stops.now self.new.places.now self.new.journal.now self.new.held }
+        ensures moved { Moves (doing (swap_of i.0 j.0) (track_in self.old)) self.old self.new }
     {
         let held = self.held;
         let stops = &mut *self.stops;
@@ -113,7 +112,7 @@ impl<'a> Track<'a> {
         requires scratch_fits { length scratch.old ≡ length self.old.stops.now }
         requires mark_le_held { mark ≤ self.old.held }
         ensures same { SameTrack self.old self.new }
-        ensures back { Back (track_in self.old) mark self.new.stops.now self.new.places.now self.new.journal.now self.new.held }
+        ensures back { Rolls mark self.old self.new }
         ensures words { self.new.journal.now ≡ self.old.journal.now }
     {
         let held = self.held;

@@ -6,7 +6,9 @@ ghost use Rattle.std.specs.Prelude.{◌≡◌, ◌<◌};
 ghost use Rattle.rules.specs.Plan.{leg_in};
 ghost use Rattle.rules.specs.SharedWords.{Square, IsLeg};
 
+pub mod lists;
 pub mod matrix;
+pub mod plan;
 
 // A stop's number.
 #[derive(Clone, Copy, PartialEq, Eq)]
