@@ -1,3 +1,4 @@
 pub mod GrewLaws
 mod KindLaws
 mod MoveLaws
+pub mod SameLaws

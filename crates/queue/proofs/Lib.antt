@@ -1,3 +1,4 @@
 pub mod LineLaws
 pub mod AgreeLaws
 mod PushLaws
+pub mod SameLaws
