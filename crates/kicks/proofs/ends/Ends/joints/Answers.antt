@@ -4,7 +4,7 @@ use native.Mathlib.Omega.{arith}
 use lib.Dec.{eqb}
 use borrow.Author.Tests.{eq-eqb, ne_eqb}
 use Rattle.kicks.specs.Exchanging.{joining}
-use Rattle.kicks.proofs.ends.joints.Goals as goal
+use Rattle.kicks.proofs.ends.Ends.joints.Goals as goal
 
 pub returns-then-b-eq0 : goal.returns-then-b-eq0
 unfolding joining
