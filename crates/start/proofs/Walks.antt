@@ -3,7 +3,7 @@ use Prim.Native.Nat.{ℕ, zero, suc, ◌+◌, ◌-◌, ◌*◌, ◌≤◌, ◌<�
 use mathlib.Core.Path.{◌≡◌, refl, sym, ap, ◌∙◌}
 use mathlib.Core.Bool.{Bool, true, false}
 use mathlib.Core.List.{List, [], ◌∷◌, ◌++◌, append_assoc, append-nil}
-use mathlib.Core.Logic.{◌⊎◌, inl, inr, ◌≢◌}
+use mathlib.Core.Logic.{◌≢◌}
 use native.Mathlib.Omega.{arith}
 use native.Mathlib.Numerals.{add-one}
 use native.Mathlib.Decide.{ℕ_discrete}
@@ -48,9 +48,9 @@ module _ (mask : List ℕ) (k : Stop) (inside : k < length mask) where
   mask_set : {n : ℕ} → Mask n mask → Mask n (marked mask k)
   mask_set {n} m = record { few = m.few; room = omega (arith, m.room, length-set mask k 65535); flag = λ v l. go v l (ℕ_discrete v k) }
     where
-      go : (v : Stop) → v < n → Dec (v ≡ k) → (at (marked mask k) v ≡ 0) ⊎ (at (marked mask k) v ≡ 65535)
-      go v l (yes e) = inr (ap (at (marked mask k)) e ∙ get_or-set_same mask k 65535 0 inside)
-      go v l (no e) = rw (get_or-set_other mask k v 65535 0 e) (m.flag v l)
+      go : (v : Stop) → v < n → Dec (v ≡ k) → (at (marked mask k) v ≡ 0 → ⊥) → at (marked mask k) v ≡ 65535
+      go v l (yes e) z = ap (at (marked mask k)) e ∙ get_or-set_same mask k 65535 0 inside
+      go v l (no e) z = let q = get_or-set_other mask k v 65535 0 e in q ∙ m.flag v l (λ y. z (q ∙ y))
 
 -- the mask as it is made
 pub blank : (n : ℕ) → n ≤ 4096 → Blank n (replicate 4096 0)
@@ -78,7 +78,7 @@ module _ (matrix : List Time) (n : ℕ) (mask : List ℕ) (round : Round) (few :
   unfolding start_round
   begun =
       record {
-        masks = mask_set mask 0 inside (record { few = few; room = b.room; flag = λ v l. inl (b.zeros v) });
+        masks = mask_set mask 0 inside (record { few = few; room = b.room; flag = λ v l z. absurd (z (b.zeros v)) });
         long = length-set round 0 0 ∙ long;
         below = some;
         count = omega (arith, ap length all, rising_length (n - 1) 1);
