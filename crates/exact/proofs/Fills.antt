@@ -18,23 +18,9 @@ use Rattle.rules.specs.Calls.{table_left}
 use Rattle.laws.proofs.TableLaws.{table_is}
 use Rattle.exact.specs.Inner.{Sized, Words, Row, Put}
 
--- ---- a row, word by word
-pub put_starts : (part row : List Time) → Put part row 0 part
-put_starts part row = record { long = refl; front = λ i h. absurd (omega arith); back = λ i h. refl }
-
-pub put_next : {part row : List Time} {j : ℕ} {out : List Time} → j < length part → Put part row j out → (v : Time) → v ≡ at row j → Put part row (j + 1) (set out j v)
-put_next {part} {row} {j} {out} l h v e =
-    record {
-      long = length-set out j v ∙ h.long;
-      front = λ i b. go i b (dec_lt i j);
-      back = λ i b. let d : i ≢ j = omega arith in get_or-set_other out j i v 0 d ∙ h.back i (omega arith);
-    }
-  where
-    go : (i : ℕ) → i < j + 1 → Dec (i < j) → at (set out j v) i ≡ at row i
-    go i b (yes a) = let d : i ≢ j = omega arith in get_or-set_other out j i v 0 d ∙ h.front i a
-    go i b (no a) =
-        let q : i ≡ j = omega arith in
-        ap (at (set out j v)) q ∙ get_or-set_same out j v 0 (omega (arith, h.long)) ∙ e ∙ ap (at row) (sym q)
+-- ---- the words of a row that are written
+pub row_cut : {matrix : List Time} {n s : ℕ} {row : List Time} → Row matrix n s row → Row matrix n s (take (n - 1) row)
+row_cut {n = n} {row = row} o = record { word = λ k low high. get_or-take (n - 1) row (k - 1) 0 (omega arith) ∙ o.word k low high }
 
 -- ---- the table with its part from a on replaced by ys
 module _ (t ys : List Time) (a : ℕ) (h : a ≤ length t) (e : length ys ≡ length t - a) where
@@ -91,9 +77,9 @@ module _ {matrix : List Time} {n : ℕ} {table₀ : List Time} (z : Sized n matr
     pub row_fits : s * (n - 1) + (n - 1) ≤ length t
     row_fits = omega (arith, mul-le-mul_right (n - 1) b, f.long, z.room)
 
-    pub fill_next : {row ys : List Time} → Row matrix n s row → Put (take (length t - s * (n - 1)) (drop (s * (n - 1)) t)) row (n - 1) ys
+    pub fill_next : {row ys : List Time} → length row ≡ n - 1 → Row matrix n s row → Put (take (length t - s * (n - 1)) (drop (s * (n - 1)) t)) row ys
         → Filling matrix n table₀ (put_mid (s * (n - 1)) (length t - s * (n - 1)) t ys) (s + 1)
-    fill_next {row} {ys} o p =
+    fill_next {row} {ys} c o p =
         record {
           few = omega arith;
           long = whole_length t ys a at_most same_long ∙ f.long;
