@@ -3,7 +3,7 @@ use Prim.Native.Nat.{ℕ, ◌-◌, ◌*◌, ◌^◌, ◌≤◌, ◌<◌}
 use mathlib.Core.Path.{◌≡◌, refl, sym, ap, ◌∙◌}
 use mathlib.Core.Bool.{Bool, true, false, ◌&&◌}
 use mathlib.Core.List.{List}
-use mathlib.Core.Logic.{◌≢◌}
+use mathlib.Core.Logic.{◌≢◌, ◌⊎◌, inl, inr}
 use native.Mathlib.Nat.{mul-le-mul}
 use native.Mathlib.Omega.{arith}
 use lib.Dec.{leb, eqb}
@@ -37,36 +37,31 @@ none_fails false b c e = absurd (omega arith)
 
 -- the number of the first check that fails
 module _ (n : ℕ) (matrix : List Time) (round : Round) (table : List Time) where
-  pub too_few : n < 1 → exact_number n matrix round table ≡ 1
+  pub outside : (n < 1) ⊎ ((1 ≤ n) × (25 < n)) → exact_number n matrix round table ≡ 1
   unfolding checks
-  too_few h = is_checks n matrix round table ∙ rw (lt-leb 1 n h)
-
-  pub too_many : 25 < n → exact_number n matrix round table ≡ 1
-  unfolding checks
-  too_many h = let low : 1 ≤ n = omega arith in is_checks n matrix round table ∙ rw (le-leb 1 n low, lt-leb n 25 h)
+  outside (inl h) = is_checks n matrix round table ∙ rw (lt-leb 1 n h)
+  outside (inr h) = is_checks n matrix round table ∙ rw (le-leb 1 n h.0, lt-leb n 25 h.1)
 
   module _ (low : 1 ≤ n) (high : n ≤ 25) where
-    pub odd_matrix : length matrix ≢ n * n → exact_number n matrix round table ≡ 3
+    pub odd : (length matrix ≢ n * n) ⊎ ((length matrix ≡ n * n) × (length round ≢ n)) → exact_number n matrix round table ≡ 3
     unfolding checks
-    odd_matrix h = is_checks n matrix round table ∙ rw (le-leb 1 n low, le-leb n 25 high, ne_eqb (length matrix) (n * n) h)
+    odd (inl h) = is_checks n matrix round table ∙ rw (le-leb 1 n low, le-leb n 25 high, ne_eqb (length matrix) (n * n) h)
+    odd (inr h) =
+        is_checks n matrix round table
+        ∙ rw (le-leb 1 n low, le-leb n 25 high, eq-eqb (length matrix) (n * n) h.0, ne_eqb (length round) n h.1)
 
-    module _ (cells : length matrix ≡ n * n) where
-      pub odd_round : length round ≢ n → exact_number n matrix round table ≡ 3
+    module _ (cells : length matrix ≡ n * n) (stops : length round ≡ n) where
+      pub small : length table < 2 ^ (n - 1) * (n - 1) → exact_number n matrix round table ≡ 4
       unfolding checks
-      odd_round h = is_checks n matrix round table ∙ rw (le-leb 1 n low, le-leb n 25 high, eq-eqb (length matrix) (n * n) cells, ne_eqb (length round) n h)
+      small h =
+          is_checks n matrix round table
+          ∙ rw (le-leb 1 n low, le-leb n 25 high, eq-eqb (length matrix) (n * n) cells, eq-eqb (length round) n stops, lt-leb (2 ^ (n - 1) * (n - 1)) (length table) h)
 
-      module _ (stops : length round ≡ n) where
-        pub small_table : length table < 2 ^ (n - 1) * (n - 1) → exact_number n matrix round table ≡ 4
-        unfolding checks
-        small_table h =
-            is_checks n matrix round table
-            ∙ rw (le-leb 1 n low, le-leb n 25 high, eq-eqb (length matrix) (n * n) cells, eq-eqb (length round) n stops, lt-leb (2 ^ (n - 1) * (n - 1)) (length table) h)
-
-        pub all_fit : 2 ^ (n - 1) * (n - 1) ≤ length table → exact_number n matrix round table ≡ 0
-        unfolding checks
-        all_fit h =
-            is_checks n matrix round table
-            ∙ rw (le-leb 1 n low, le-leb n 25 high, eq-eqb (length matrix) (n * n) cells, eq-eqb (length round) n stops, le-leb (2 ^ (n - 1) * (n - 1)) (length table) h)
+      pub all_fit : 2 ^ (n - 1) * (n - 1) ≤ length table → exact_number n matrix round table ≡ 0
+      unfolding checks
+      all_fit h =
+          is_checks n matrix round table
+          ∙ rw (le-leb 1 n low, le-leb n 25 high, eq-eqb (length matrix) (n * n) cells, eq-eqb (length round) n stops, le-leb (2 ^ (n - 1) * (n - 1)) (length table) h)
 
 -- nothing is refused: the sizes are as they should be
 pub ready : (n : ℕ) (matrix : List Time) (round : Round) (table : List Time) → exact_number n matrix round table ≡ 0 → Ready n matrix round table

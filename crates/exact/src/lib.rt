@@ -205,6 +205,7 @@ fn check(matrix: &[u16], n: usize, table: &[u32], round: &[u32]) -> Result<(), R
 
 // The first, in dictionary order, of the cheapest rounds from stop 0, for 1 to 25 stops, and its time. The table is lent 2^(n-1) times
 // (n-1) words or more: a round of one stop takes 0, and its table has no words.
+#[tactic(auto, using(crate::proofs::Numbers::ready))]
 pub fn solve_tsp_exact(
     matrix: &[u16],
     n: usize,
