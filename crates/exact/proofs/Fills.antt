@@ -1,14 +1,13 @@
 -- Rows written where they begin, and the table after one more of them.
 use Prim.Native.Nat.{ℕ, ◌+◌, ◌-◌, ◌*◌, ◌^◌, ◌≤◌, ◌<◌}
-use mathlib.Core.Path.{◌≡◌, refl, sym, ap, subst, ◌∙◌}
-use mathlib.Core.Logic.{◌≢◌}
+use mathlib.Core.Path.{◌≡◌, sym, ap, subst, ◌∙◌}
 use mathlib.Core.List.{List}
 use native.Mathlib.Decide.{dec_lt}
 use native.Mathlib.Nat.{mul-le-mul_right}
 use native.Mathlib.Omega.{arith}
 use lib.Arith.{digits_lt}
-use lib.ListN.{length, set, take, drop, length-set, length-append, length-take, length-drop, get_or-append, get_or-eq_default}
-use lib.Seq.{get_or-set_same, get_or-set_other, get_or-take, get_or-drop, get_or-append-add, length-take-le}
+use lib.ListN.{length, take, drop, length-append, length-take, length-drop, get_or-append, get_or-eq_default}
+use lib.Seq.{get_or-take, get_or-drop, get_or-append-add, length-take-le}
 use borrow.Rule.Slice.PartMut.{put_mid}
 use Rattle.rules.specs.Words.{Stop, Time}
 use Rattle.rules.specs.Lists.{at}
@@ -59,9 +58,6 @@ pub record Filling (matrix : List Time) (n : ℕ) (table₀ table : List Time) (
   pub beyond : (i : ℕ) → s * (n - 1) ≤ i → at table i ≡ at table₀ i
 
 module _ {matrix : List Time} {n : ℕ} {table₀ : List Time} (z : Sized n matrix table₀) where
-  pub fill_starts : Filling matrix n table₀ table₀ 0
-  fill_starts = record { few = omega arith; long = refl; words = record { word = λ p k l. absurd (omega arith) }; beyond = λ i l. refl }
-
   pub fill_done : {table : List Time} {s : ℕ} → Filling matrix n table₀ table s → s ≡ 2 ^ (n - 1) → table ≡ table_left n matrix table₀
   unfolding table_left
   fill_done {table} f e =
@@ -70,10 +66,7 @@ module _ {matrix : List Time} {n : ℕ} {table₀ : List Time} (z : Sized n matr
       (λ i l. f.beyond i (omega (arith, ap (λ x. x * (n - 1)) e)))
 
   module _ {t : List Time} {s : ℕ} (f : Filling matrix n table₀ t s) (b : s < 2 ^ (n - 1)) where
-    -- the table is as large as it was, and the row ends within it
-    pub still_sized : Sized n matrix t
-    still_sized = record { low = z.low; high = z.high; square = z.square; room = omega (arith, f.long, z.room) }
-
+    -- the row ends within the table
     pub row_fits : s * (n - 1) + (n - 1) ≤ length t
     row_fits = omega (arith, mul-le-mul_right (n - 1) b, f.long, z.room)
 

@@ -1,23 +1,18 @@
 -- The number that is given.
 use Prim.Native.Nat.{ℕ, ◌-◌, ◌*◌, ◌^◌, ◌≤◌, ◌<◌}
-use mathlib.Core.Path.{◌≡◌, refl, sym, ap, ◌∙◌}
+use mathlib.Core.Path.{◌≡◌, refl, sym, ◌∙◌}
 use mathlib.Core.Bool.{Bool, true, false, ◌&&◌}
 use mathlib.Core.List.{List}
 use mathlib.Core.Logic.{◌≢◌, ◌⊎◌, inl, inr}
-use native.Mathlib.Nat.{mul-le-mul}
 use native.Mathlib.Omega.{arith}
 use lib.Dec.{leb, eqb}
 use lib.ListN.{length}
-use lib.Pow.{pow_mono}
 use borrow.Author.Tests.{le-leb, lt-leb, leb-true, eq-eqb, ne_eqb, eqb-true}
 use Rattle.rules.specs.Words.{Time, Round}
 use Rattle.rules.specs.Lists.{when◌then◌else◌}
 use Rattle.rules.specs.Numbers.{verdict, within, exact_number}
 use Rattle.laws.proofs.ChoiceLaws.{and-true}
 use Rattle.exact.specs.Inner.{Ready}
-
-pub words_few : (n : ℕ) → n ≤ 25 → (n * n ≤ 625) × (2 ^ (n - 1) * (n - 1) ≤ 402653184)
-words_few n h = let z : n - 1 ≤ 24 = omega arith in (mul-le-mul h h, mul-le-mul (pow_mono z) z)
 
 -- the three checks
 checks : Bool → Bool → Bool → ℕ

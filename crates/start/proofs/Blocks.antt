@@ -12,10 +12,7 @@ use Rattle.start.specs.Near.{Nearest, Hit, Lowest, First}
 use Rattle.start.proofs.Scans.{one_more}
 
 module _ (f : Stop → Time) where
-  -- the least of a block, stop by stop
-  pub lowest_start : (i : ℕ) → Lowest f i i 65535
-  lowest_start i = record { top = omega arith; short = λ v low high. absurd (omega arith); least = λ v low high. absurd (omega arith); hit = λ h. absurd (omega arith) }
-
+  -- the least of a block, with one stop more
   pub lowest_next : {i j x x' : ℕ} → i ≤ j → f j ≤ 65535 → x' ≡ min x (f j) → Lowest f i j x → Lowest f i (j + 1) x'
   lowest_next {i} {j} {x} {x'} l few e h =
       record {
@@ -40,46 +37,10 @@ module _ (f : Stop → Time) where
     pub hit : best < 65535 → Hit f start end best
     pub first : (v : Stop) → v < start → best < f v
 
-  pub blocks_start : Blocks 0 65535 0 0
-  blocks_start =
-      record { top = omega arith; short = λ v h. absurd (omega arith); least = λ v h. absurd (omega arith); inside = omega arith; hit = λ h. absurd (omega arith); first = λ v h. absurd (omega arith) }
-
-  module _ {i best start end e x : ℕ} (b : Blocks i best start end) (l : Lowest f i e x) (h : i < e) where
-    both : (y : ℕ) → y ≤ best → y ≤ x → (v : Stop) → v < e → y ≤ f v
-    both y p q v z = go (dec_lt v i)
-      where
-        go : Dec (v < i) → y ≤ f v
-        go (yes r) = omega (arith, b.least v r)
-        go (no r) = omega (arith, l.least v (omega arith) z)
-
-    all_short : (v : Stop) → v < e → f v ≤ 65535
-    all_short v z = go (dec_lt v i)
-      where
-        go : Dec (v < i) → f v ≤ 65535
-        go (yes r) = b.short v r
-        go (no r) = l.short v (omega arith) z
-
-    pub blocks_less : x < best → Blocks e x i e
-    blocks_less z =
-        record { top = l.top; short = all_short; least = both x (omega arith) (omega arith); inside = omega arith; hit = l.hit; first = λ v y. omega (arith, b.least v y) }
-
-    pub blocks_keep : best ≤ x → Blocks e best start end
-    blocks_keep z =
-        record { top = b.top; short = all_short; least = both best (omega arith) z; inside = omega (arith, b.inside); hit = b.hit; first = b.first }
-
 -- v is nowhere from i on and before j
 module _ (f : Stop → Time) (i x : ℕ) where
   abbrev pub Missed : ℕ → Type 0
   Missed j = (v : Stop) → i ≤ v → v < j → f v ≡ x → ⊥
-
-  pub missed_start : Missed i
-  missed_start v low high = absurd (omega arith)
-
-  pub missed_next : (j : ℕ) → Missed j → (f j ≡ x → ⊥) → Missed (j + 1)
-  missed_next j h z v low high = one_more (λ (u : Stop). f u ≡ x → ⊥) j z v high (h v low)
-
-  pub missed_all : (j e : ℕ) → Missed j → e ≤ j → Hit f i e x → ⊥
-  missed_all j e h l s = h s.stop s.low (omega (arith, s.high)) s.is
 
 module _ (row mask : List ℕ) where
   -- a stop left counts with its leg, a visited one with 65535

@@ -16,7 +16,7 @@ use Rattle.rules.specs.Lists.{at, rising}
 use Rattle.rules.specs.Plan.{leg_in}
 use Rattle.rules.specs.Start.{start_from, start_round}
 use Rattle.rules.specs.SharedWords.{Square}
-use Rattle.laws.proofs.CellLaws.{row_within, cells_few}
+use Rattle.laws.proofs.CellLaws.{row_within}
 use Rattle.laws.proofs.RisingLaws.{rising_length}
 use Rattle.laws.proofs.StartLaws.{passing, passing_no, all_pass, start_on, passing_without, passing_fewer, some_passes}
 use Rattle.start.specs.Mask.{Mask, Left, Blank}
@@ -100,9 +100,6 @@ module _ {matrix : List Time} {n : ℕ} {mask : List ℕ} {round : Round} {last 
   pub row_ends : a * n + n ≤ length matrix
   row_ends = omega (arith, sq.cells, row_within n n a (omega (arith, w.below)))
 
-  pub row_small : a * n + n ≤ 16777216
-  row_small = omega (arith, row_ends, sq.cells, cells_few n n sq.few sq.few)
-
   pub row_long : length (row_at matrix n (a * n)) ≡ n
   row_long = simp (length-take, length-drop) (omega (arith, row_ends))
 
@@ -111,9 +108,6 @@ module _ {matrix : List Time} {n : ℕ} {mask : List ℕ} {round : Round} {last 
   row_at_lem v h =
       let l : v < a * n + n - a * n = omega arith in
       get_or-take (a * n + n - a * n) (drop (a * n) matrix) v 0 l ∙ get_or-drop (a * n) matrix v 0 ∙ ap (λ (u : Stop). at matrix (u * n + v)) e
-
-  pub walking_mask : Mask (length (row_at matrix n (a * n))) mask
-  walking_mask = rw row_long w.masks
 
   pub walking_left : i < n → Left (length (row_at matrix n (a * n))) mask
   walking_left l =

@@ -1,4 +1,4 @@
-use Rattle.std.proofs.Common.{◌⊎◌, inl, inr, sym, arith}
+use Rattle.std.proofs.Common.{inl, inr, sym, arith}
 use Rattle.laws.proofs.StartNumberLaws.{start_none, start_many, start_odd_matrix, start_odd_round, start_fits}
 use Rattle.start.proofs.check.Goals as goal
 

@@ -1,5 +1,4 @@
-use Rattle.std.proofs.Common.{◌<◌, ◌-◌, ◌^◌, arith}
-use Rattle.exact.specs.Inner.{Next, Lowest, Rest}
+use Rattle.std.proofs.Common.{arith}
 use Rattle.exact.proofs.Cells.{sets_few, stop_in}
 use Rattle.exact.proofs.Choices.{choosing_starts, choosing_near, choosing_far, choosing_done}
 use Rattle.exact.proofs.Table.choose.Goals as goal

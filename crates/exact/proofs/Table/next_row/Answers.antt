@@ -1,4 +1,4 @@
-use Rattle.std.proofs.Common.{◌≡◌, ◌*◌, ◌%◌, ◌-◌, ◌^◌, refl, sym, ap, ◌∙◌, arith}
+use Rattle.std.proofs.Common.{◌-◌, refl, ap, ◌∙◌, arith}
 use Rattle.rules.specs.Table.{members}
 use Rattle.rules.specs.Plan.{leg_in}
 use Rattle.laws.proofs.OnwardLaws.{onward}
