@@ -19,7 +19,7 @@ use legs::matrix::Matrix;
 use numbers::Refusal;
 
 // The stops of a set, the lowest first.
-#[derive(Clone, Copy)]
+#[derive(Drop)]
 struct Stops {
     left: usize,
     ghost few: { left < 2 ^ 24 },
