@@ -11,7 +11,6 @@ fn bytes_at<const N: usize>(s: &[u8], q: usize) -> [u8; N]
 }
 
 // The 16 bits at byte q.
-
 pub fn read16(s: &[u8], q: usize) -> u16
     requires { q + 1 < length s.now }
     ensures { Reads s.now (8 * q) 16 result }
@@ -20,7 +19,6 @@ pub fn read16(s: &[u8], q: usize) -> u16
 }
 
 // The 32 bits at byte q.
-
 pub fn read32(s: &[u8], q: usize) -> u32
     requires { q + 3 < length s.now }
     ensures { Reads s.now (8 * q) 32 result }
@@ -29,7 +27,6 @@ pub fn read32(s: &[u8], q: usize) -> u32
 }
 
 // The 64 bits at byte q.
-
 pub fn read64(s: &[u8], q: usize) -> u64
     requires { q + 7 < length s.now }
     ensures { Reads s.now (8 * q) 64 result }
