@@ -2,15 +2,15 @@
 use Prim.Native.Nat.{ℕ, zero, suc, ◌+◌, ◌-◌, ◌*◌, ◌≤◌, ◌<◌}
 use mathlib.Core.Path.{◌≡◌, refl, sym, ap, ◌∙◌}
 use mathlib.Core.Bool.{Bool, true, false, not, ◌&&◌}
-use mathlib.Core.List.{List, ◌∷◌}
+use mathlib.Core.List.{List}
 use native.Mathlib.Nat.{mul-le-mul_right, suc-mul}
 use native.Mathlib.Omega.{arith}
 use lib.Dec.{eqb, ltb}
-use lib.ListN.{length, take, drop}
+use lib.ListN.{length, drop}
 use lib.Seq.{drop-drop}
 use Rattle.std.specs.List.{list_all, range_with_len}
 use Rattle.rules.specs.Lists.{every, rising}
-use Rattle.rules.specs.Bits.{bits_of, field, fields, value_from}
+use Rattle.rules.specs.Bits.{bits_of, field, fields}
 use Rattle.rules.specs.Plan.{list_in, near_of, alpha_of}
 use Rattle.rules.specs.Sheets.{Header, near_at, alpha_at, end_at, plan_on}
 use Rattle.rules.specs.Numbers.{good_list}

@@ -29,22 +29,12 @@ pub fn list_good(s: &[u8], at: usize, n: usize, k: usize) -> bool
 
 impl Sheet<'_> {
     // Near and alpha lists.
-    #[tactic(
-        auto,
-        unfolding(
-            crate::specs::Sheet::good_lists,
-            rules::specs::Sheets::near_at,
-            rules::specs::Sheets::alpha_at,
-            rules::specs::Sheets::end_at,
-            rules::specs::Sheets::plan_on,
-            rules::specs::Plan::near_of,
-            rules::specs::Plan::alpha_of
-        )
-    )]
+    #[tactic(auto, unfolding(crate::specs::Sheet::good_lists, rules::specs::Sheets::near_at, rules::specs::Sheets::alpha_at, rules::specs::Sheets::end_at, rules::specs::Sheets::plan_on, rules::specs::Plan::near_of, rules::specs::Plan::alpha_of))]
     pub fn lists_good(&self) -> bool
         ensures { result ≡ good_lists (header_of self.now.header) self.now.bytes.now }
     {
         let h = self.header;
-        list_good(self.bytes, h.near_at(), h.n, h.k) && list_good(self.bytes, h.alpha_at(), h.n, h.ka)
+        list_good(self.bytes, h.near_at(), h.n, h.k)
+            && list_good(self.bytes, h.alpha_at(), h.n, h.ka)
     }
 }

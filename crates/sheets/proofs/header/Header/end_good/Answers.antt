@@ -1,4 +1,4 @@
-use Rattle.std.proofs.Common.{rules, sym, ◌∙◌, arith}
+use Rattle.std.proofs.Common.{rules, arith}
 use borrow.Author.Tests.{tests}
 use Rattle.sheets.specs.Sheet.{header_of}
 use Rattle.sheets.proofs.EndLaws.{end_is}
