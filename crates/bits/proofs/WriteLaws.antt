@@ -52,18 +52,18 @@ bytes_high (suc k) v =
     top zero = omega arith
     top (suc k) = ap (λ (z : ℕ). v / z % 256) (words (suc k))
 
-pub bytes_16 : (v : ℕ) → bytes_of (bits 16 v) ≡ bytes_high_first 2 v
-bytes_16 v = bytes_high 2 v
+pub bytes_of_16 : (v : ℕ) → bytes_of (bits 16 v) ≡ bytes_high_first 2 v
+bytes_of_16 v = bytes_high 2 v
 
-pub bytes_32 : (v : ℕ) → bytes_of (bits 32 v) ≡ bytes_high_first 4 v
-bytes_32 v = bytes_high 4 v
+pub bytes_of_32 : (v : ℕ) → bytes_of (bits 32 v) ≡ bytes_high_first 4 v
+bytes_of_32 v = bytes_high 4 v
 
 -- two entries of 12 bits, and a last one
-pub bytes_pair : (x y : ℕ) → x < 4096 → y < 4096 → bytes_of (bits 12 x ++ bits 12 y) ≡ bytes_high_first 3 (x * 4096 + y)
-bytes_pair x y h k = ap bytes_of (sym (bits_join 12 12 x y k)) ∙ bytes_high 3 (x * 4096 + y)
+pub bytes_of_pair : (x y : ℕ) → x < 4096 → y < 4096 → bytes_of (bits 12 x ++ bits 12 y) ≡ bytes_high_first 3 (x * 4096 + y)
+bytes_of_pair x y h k = ap bytes_of (sym (bits_join 12 12 x y k)) ∙ bytes_high 3 (x * 4096 + y)
 
-pub bytes_last : (v : ℕ) → v < 4096 → bytes_of (bits 12 v) ≡ bytes_high_first 2 (v * 16)
-bytes_last v h =
+pub bytes_of_last : (v : ℕ) → v < 4096 → bytes_of (bits 12 v) ≡ bytes_high_first 2 (v * 16)
+bytes_of_last v h =
     let a : v / 16 ≡ v * 16 / 256 % 256 = omega arith in
     let b : v % 16 * 16 ≡ v * 16 % 256 = omega arith in
     bytes_12 v h ∙ (rw (a, b))

@@ -116,3 +116,6 @@ module _ (s : List ℕ) where
 
               pub ready : Ready head s room
               ready = record { sizes = sizes; long = l; ends = whole; answer = r }
+
+-- all that a sheet's check takes
+pub ruleset sheet_numbers = (number_short, number_head, narrow, number_told, number_end, sizes, whole, number_room, number_lists, number_none, ready)

@@ -11,7 +11,7 @@ use bits::read::{read32, read64};
 pub struct Header {
     pub version: u32,
     pub step: u32,
-    pub stop: u32,
+    pub stop: bool,
     pub n: usize,
     pub k: usize,
     pub ka: usize,
@@ -28,13 +28,13 @@ impl Header {
     {
         let v = read32(s, 0);
         Header {
-            version: v / 268435456,
-            step: v / 67108864 % 4,
-            stop: v / 33554432 % 2,
-            n: (v / 4096 % 8192) as usize,
-            k: (v / 128 % 32) as usize,
-            ka: (v / 16 % 8) as usize,
-            spare: v % 16,
+            version: v >> 28,
+            step: v >> 26 & 0x3,
+            stop: v >> 25 & 0x1 == 1,
+            n: (v >> 12 & 0x1fff) as usize,
+            k: (v >> 7 & 0x1f) as usize,
+            ka: (v >> 4 & 0x7) as usize,
+            spare: v & 0xf,
             budget: read32(s, 4),
             seed: read64(s, 8),
         }

@@ -20,7 +20,7 @@ pub struct Sheet<'a> {
 
 impl<'a> Sheet<'a> {
     // The sheet, where the answer has room bytes.
-    #[tactic(auto, using(crate::proofs::NumberLaws::number_short, crate::proofs::NumberLaws::number_head, crate::proofs::NumberLaws::narrow, crate::proofs::NumberLaws::number_told, crate::proofs::NumberLaws::number_end, crate::proofs::NumberLaws::sizes, crate::proofs::NumberLaws::whole, crate::proofs::NumberLaws::number_room, crate::proofs::NumberLaws::number_lists, crate::proofs::NumberLaws::number_none, crate::proofs::NumberLaws::ready))]
+    #[tactic(auto, using(crate::proofs::NumberLaws::sheet_numbers))]
     pub fn read(bytes: &'a [u8], room: usize) -> Result<Sheet<'a>, Refusal>
         ensures number { number_in result ≡ verdict (sheet_checks bytes.now room) }
         ensures sheet { IfOk result (λ sheet. (sheet.bytes.now ≡ bytes.now) × (header_of sheet.header ≡ header_in (bits_of bytes.now)) × Ready (header_in (bits_of bytes.now)) bytes.now room) }
