@@ -24,7 +24,8 @@ pub fn put_round(a: &mut [u8], round: &[u32])
     }
 }
 
-// An answer: why the search ended, the round's time, the units and kicks, and the best round.
+// An answer: 1 if the search ended with no unit left, else 0; the round's time, the units and kicks, and the best round.
+// ended is a number and no bool: its two bits may be any.
 #[derive(Clone, Copy)]
 pub struct Answer<'a> {
     pub ended: u32,
@@ -44,7 +45,7 @@ impl Answer<'_> {
         ensures { Written self.now.round.now self.now.time self.now.units self.now.kicks self.now.ended a.old a.new }
     {
         let n = self.round.len() as u32;
-        put32(a, 0, 268435456 + self.ended * 67108864 + n * 8192);
+        put32(a, 0, 1 << 28 | self.ended << 26 | n << 13);
         put32(a, 4, self.time);
         put32(a, 8, self.units);
         put32(a, 12, self.kicks);

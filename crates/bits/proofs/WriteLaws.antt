@@ -10,6 +10,8 @@ use lib.Seq.{take_at, drop-drop, drop-append-add, length-take-le}
 use Rattle.rules.specs.Bits.{bits, bytes_of}
 use Rattle.laws.proofs.BitLaws.{bytes_12, bytes_of_byte, bytes_of_none, bits_join, bits_split}
 use Rattle.std.specs.Int.{byte_at, bytes_high_first}
+use Rattle.std.specs.Int.Bits.{bit_or}
+use Rattle.std.proofs.lemmas.Grind.{or_after_shift}
 use Rattle.bits.specs.Write.{Wrote}
 
 -- ---- one write after another
@@ -59,11 +61,13 @@ pub bytes_of_32 : (v : ℕ) → bytes_of (bits 32 v) ≡ bytes_high_first 4 v
 bytes_of_32 v = bytes_high 4 v
 
 -- two entries of 12 bits, and a last one
-pub bytes_of_pair : (x y : ℕ) → x < 4096 → y < 4096 → bytes_of (bits 12 x ++ bits 12 y) ≡ bytes_high_first 3 (x * 4096 + y)
-bytes_of_pair x y h k = ap bytes_of (sym (bits_join 12 12 x y k)) ∙ bytes_high 3 (x * 4096 + y)
+pub bytes_of_pair : (x y : ℕ) → x < 4096 → y < 4096 → bytes_of (bits 12 x ++ bits 12 y) ≡ bytes_high_first 3 (bit_or (x * 4096 % 4294967296) y)
+bytes_of_pair x y h k =
+    let e : bit_or (x * 4096 % 4294967296) y ≡ x * 4096 + y = or_after_shift x 4096 4294967296 y refl k (omega arith) in
+    ap bytes_of (sym (bits_join 12 12 x y k)) ∙ bytes_high 3 (x * 4096 + y) ∙ (rw e)
 
-pub bytes_of_last : (v : ℕ) → v < 4096 → bytes_of (bits 12 v) ≡ bytes_high_first 2 (v * 16)
+pub bytes_of_last : (v : ℕ) → v < 4096 → bytes_of (bits 12 v) ≡ bytes_high_first 2 (v * 16 % 4294967296)
 bytes_of_last v h =
-    let a : v / 16 ≡ v * 16 / 256 % 256 = omega arith in
-    let b : v % 16 * 16 ≡ v * 16 % 256 = omega arith in
+    let a : v / 16 ≡ v * 16 % 4294967296 / 256 % 256 = omega arith in
+    let b : v % 16 * 16 ≡ v * 16 % 4294967296 % 256 = omega arith in
     bytes_12 v h ∙ (rw (a, b))

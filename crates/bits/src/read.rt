@@ -10,7 +10,7 @@ fn bytes_at<const N: usize>(s: &[u8], q: usize) -> [u8; N]
     *s[q..].first_chunk().unwrap()
 }
 
-// The 16 bits at byte q.
+// The 16 bits at byte q. There is a reader for each width, a line each: std's from_be_bytes is of no trait that one could be generic over.
 pub fn read16(s: &[u8], q: usize) -> u16
     requires { q + 1 < length s.now }
     ensures { Reads s.now (8 * q) 16 result }

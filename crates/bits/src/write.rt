@@ -38,7 +38,7 @@ pub fn put_pair(a: &mut [u8], at: usize, x: u32, y: u32)
     requires { (at + 3 ≤ length a.old) × (x < 4096) × (y < 4096) }
     ensures { Wrote a.old at (bytes_of (bits 12 x ++ bits 12 y)) a.new }
 {
-    put(a, at, &(x * 4096 + y).to_be_bytes()[1..]);
+    put(a, at, &(x << 12 | y).to_be_bytes()[1..]);
 }
 
 // A last number of 12 bits at byte at, and zero bits.
@@ -48,5 +48,5 @@ pub fn put_last(a: &mut [u8], at: usize, v: u32)
     requires { (at + 2 ≤ length a.old) × (v < 4096) }
     ensures { Wrote a.old at (bytes_of (bits 12 v)) a.new }
 {
-    put(a, at, &(v * 16).to_be_bytes()[2..]);
+    put(a, at, &(v << 4).to_be_bytes()[2..]);
 }

@@ -35,7 +35,7 @@ fn cell(s: &[u8], n: usize, a: usize, b: usize) -> u16
     }
 }
 
-// The whole matrix, cell by cell.
+// The whole matrix, cell by cell. It takes bytes, as load_list does, and no Sheet: any that are long enough serve.
 #[tactic(auto, using(crate::proofs::LoadLaws::matrix_filled))]
 pub fn load_matrix(s: &[u8], n: usize, m: &mut [u16])
     requires { (1 ≤ n) × (n ≤ 128) × (16 + n * (n - 1) ≤ length s.now) × (length m.old ≡ n * n) }
@@ -60,7 +60,7 @@ pub fn load_list(s: &[u8], at: usize, list: &mut [u32])
 // A sheet's matrix, near list and alpha list.
 #[tactic(auto, unfolding(crate::specs::Load::triangle_in, rules::specs::Sheets::near_at, rules::specs::Sheets::alpha_at, rules::specs::Sheets::end_at, rules::specs::Sheets::plan_on))]
 pub fn load_plan(sheet: &Sheet, m: &mut [u16], near: &mut [u32], alpha: &mut [u32])
-    requires { (length m.old ≡ sheet.now.header.n * sheet.now.header.n) × (length near.old ≡ sheet.now.header.n * sheet.now.header.k) × (length alpha.old ≡ sheet.now.header.n * sheet.now.header.ka) }
+    requires { let h = sheet.now.header in (length m.old ≡ h.n * h.n) × (length near.old ≡ h.n * h.k) × (length alpha.old ≡ h.n * h.ka) }
     ensures { Loaded (header_of sheet.now.header) sheet.now.bytes.now m.new near.new alpha.new }
 {
     let h = sheet.header;

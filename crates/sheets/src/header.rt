@@ -7,6 +7,7 @@ ghost use Rattle.sheets.specs.Sheet.{header_of, Narrow};
 use bits::read::{read32, read64};
 
 // The step is a number and no kind yet: a sheet may hold 3, which is refused.
+// That its sizes are Narrow is asked where it is needed, and is no ghost field: head_check takes any header.
 #[derive(Clone, Copy, PartialEq, Eq, Debug)]
 pub struct Header {
     pub version: u32,

@@ -8,7 +8,7 @@ ghost use Rattle.sheets.specs.Sheet.{header_of, good_row, good_lists};
 use crate::sheet::Sheet;
 use bits::read::read12;
 
-// The k entries of stop v, 12 bits each from bit at on, are below n, and none is v.
+// The k entries of stop v, 12 bits each from bit at on, are below n, and none is v. It takes bytes and sizes, and no Sheet: any may be asked.
 pub fn row_good(s: &[u8], at: usize, n: usize, k: usize, v: usize) -> bool
     requires { (at % 4 ≡ 0) × (at + 12 * k ≤ 8 * length s.now) × (at ≤ 1000000) × (k ≤ 20) }
     ensures { result ≡ good_row n v (fields 12 k (drop at (bits_of s.now))) }

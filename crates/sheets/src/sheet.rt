@@ -23,7 +23,7 @@ impl<'a> Sheet<'a> {
     #[tactic(auto, using(crate::proofs::NumberLaws::sheet_numbers))]
     pub fn read(bytes: &'a [u8], room: usize) -> Result<Sheet<'a>, Refusal>
         ensures number { number_in result ≡ verdict (sheet_checks bytes.now room) }
-        ensures sheet { IfOk result (λ sheet. (sheet.bytes.now ≡ bytes.now) × (header_of sheet.header ≡ header_in (bits_of bytes.now)) × Ready (header_in (bits_of bytes.now)) bytes.now room) }
+        ensures sheet { let h = header_in (bits_of bytes.now) in IfOk result (λ sheet. (sheet.bytes.now ≡ bytes.now) × (header_of sheet.header ≡ h) × Ready h bytes.now room) }
     {
         if bytes.len() < 16 {
             return Err(Refusal::Header);
