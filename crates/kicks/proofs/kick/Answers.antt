@@ -1,6 +1,5 @@
 use mathlib.Core.Path.{◌≡◌, refl, ◌∙◌}
 use native.Mathlib.Omega.{arith}
-use lib.ListN.{length}
 use Rattle.rules.specs.Journal.{track_of}
 use Rattle.rules.specs.Kicks.{kind_at}
 use Rattle.journal.specs.Tracks.{track_in}

@@ -1,11 +1,8 @@
 use mathlib.Core.Path.{◌≡◌, refl}
 use mathlib.Core.Bool.{true, false}
-use native.Mathlib.Omega.{arith}
 use lib.Dec.{eqb}
 use borrow.Author.Tests.{eq-eqb, ne_eqb}
-use Rattle.laws.proofs.EveryLaws.{more, none}
 use Rattle.kicks.specs.Exchanging.{queued}
-use Rattle.kicks.proofs.EndsLaws.{stops_below}
 use Rattle.kicks.proofs.KickingLaws.{waits_as, waits_more}
 use Rattle.kicks.proofs.ends.Ends.push.Goals as goal
 
