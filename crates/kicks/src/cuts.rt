@@ -16,6 +16,7 @@ pub struct Cut {
 }
 
 // The longest segment: 200, or a third of the other stops.
+#[tactic(auto, unfolding(rules::specs::Kicks::longest))]
 fn longest(n: usize) -> u32
     requires le_n { 2 ≤ n }
     requires n_bound { n ≤ 4096 }
@@ -26,6 +27,7 @@ fn longest(n: usize) -> u32
 }
 
 // The kind that is carried out: where a segment is too short, a global kick.
+#[tactic(auto, unfolding(rules::specs::Kicks::kind_at))]
 pub fn kind_at(n: usize, kind: u32) -> u32
     requires le_n { 2 ≤ n }
     requires n_bound { n ≤ 4096 }
@@ -67,6 +69,7 @@ pub fn draw_cut(state: &mut u64, n: usize, kind: u32) -> Cut
 }
 
 // Draws a double bridge: the lengths of A, B and C. D is the rest, and B, C, D are the segments.
+#[tactic(auto, using(laws::proofs::KickKindLaws::bridge_drawn))]
 pub fn draw_bridge(state: &mut u64, n: usize) -> Cut
     requires le_n { 8 ≤ n }
     requires n_bound { n ≤ 4096 }

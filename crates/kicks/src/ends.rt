@@ -72,6 +72,7 @@ impl Ends {
     }
 
     // The time of the legs that join p, X, Y, Z and q; X and Z where Y, of b places, is empty.
+    #[tactic(auto, unfolding(crate::specs::Exchanging::joining))]
     pub fn joints(self, matrix: &Matrix, b: usize) -> u32
         requires { Eight matrix.now.n self }
         ensures { IsTime 4 (joints_of (legs_in matrix.now) b self) result }

@@ -10,6 +10,7 @@ use journal::track::Track;
 use legs::Place;
 
 // Exchanges the stops r and k places after start, where they are two.
+#[tactic(auto, using(journal::proofs::GrewLaws::grew_self))]
 fn exchange_drawn(track: &mut Track, start: Place, r: u32, k: u32)
     requires k_low { start.0 + k < length track.old.stops.now }
     requires r_le_k { r ≤ k }
