@@ -22,8 +22,7 @@ fn longest(n: usize) -> u32
     requires n_bound { n ≤ 4096 }
     ensures { Longest n result }
 {
-    let third = (n - 1) / 3;
-    third.min(200) as u32
+    ((n - 1) / 3).min(200) as u32
 }
 
 // The kind that is carried out: where a segment is too short, a global kick.
@@ -41,10 +40,7 @@ fn draw_middle(state: &mut u64, kind: u32, high: u32) -> u32
     requires { 1 ≤ high }
     ensures { Middle kind high state.old state.new result }
 {
-    if kind == 0 {
-        return draw(state, 1, high);
-    }
-    0
+    if kind == 0 { draw(state, 1, high) } else { 0 }
 }
 
 // Draws a segment kick: a, b, c, start.

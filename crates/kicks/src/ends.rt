@@ -97,14 +97,13 @@ impl Ends {
         if bridge {
             let stops = [e.q.0, e.p.0, e.x0.0, e.x1.0, e.y0.0, e.y1.0, e.z0.0, e.z1.0];
             queue.push_all(&stops);
-            return;
+        } else {
+            let outer = [e.p.0, e.x0.0, e.x1.0, e.z0.0, e.z1.0, e.q.0];
+            queue.push_all(&outer);
+            if b != 0 {
+                let inner = [e.y0.0, e.y1.0];
+                queue.push_all(&inner);
+            }
         }
-        let outer = [e.p.0, e.x0.0, e.x1.0, e.z0.0, e.z1.0, e.q.0];
-        queue.push_all(&outer);
-        if b == 0 {
-            return;
-        }
-        let inner = [e.y0.0, e.y1.0];
-        queue.push_all(&inner);
     }
 }
