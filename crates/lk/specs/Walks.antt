@@ -3,7 +3,6 @@ use Rattle.std.specs.Prelude.{ℕ, zero, suc, ◌+◌, ◌-◌, ◌≤◌, ◌<�
 use Rattle.rules.specs.Words.{Stop, Place, Time, Round}
 use Rattle.rules.specs.Journal.{Track, track_of, rollback, good_journal}
 use Rattle.rules.specs.Plan.{Plan, leg_of}
-use Rattle.legs.specs.declared.plan.Plan.{Plan as Lent}
 use Rattle.rules.specs.Improve.{Trial, Found, nothing}
 use Rattle.rules.specs.Step.{Step, begin}
 use Rattle.rules.specs.Lk.{Best, better, flipped, deepen}
@@ -11,15 +10,10 @@ use Rattle.rules.specs.SharedWords.{Tied}
 use Rattle.journal.specs.Journalled.{Grew}
 use Rattle.journal.specs.Tracks.{track_in}
 use Rattle.journal.specs.declared.track.Track.{Track as Kept}
-use Rattle.improve.specs.Steps.{plan_of}
 use Rattle.lk_state.specs.Stacks.{legs_in, stops_in, Stepping}
 use Rattle.lk_state.specs.declared.LkState.{LkState}
 use Rattle.lk_scans.specs.Picked.{shown, cont_is, Fine}
 use Rattle.lk.specs.declared.Walk.{Walk}
-
--- the plan that is lent, with these alpha lists: this step reads none
-abbrev pub with_alpha : Lent → ℕ → List Stop → Plan
-with_alpha p ka alpha = plan_of p.matrix.n p.matrix.times.now p.near.count p.near.entries.now ka alpha
 
 -- what the continuation x of the first level leads to
 unfoldable pub led : Plan → Stop → Stop → Track → Trial → Best

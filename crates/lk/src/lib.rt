@@ -10,10 +10,10 @@ ghost use Rattle.rules.specs.Lk.{lk_side as lk_side_of, lk_from as lk_from_of};
 ghost use Rattle.journal.specs.Tracks.{track_in, SameTrack};
 ghost use Rattle.queue.specs.Queues.{SameQueue, waiting_in, Queued};
 ghost use Rattle.work.specs.Works.{SameWork};
-ghost use Rattle.improve.specs.Steps.{Steps};
+ghost use Rattle.improve.specs.Steps.{plan_with, Steps};
 ghost use Rattle.lk_state.specs.Stacks.{legs_in, stops_in, Stepping};
 ghost use Rattle.lk_scans.specs.Picked.{conts_on, trial_in, Fine};
-ghost use Rattle.lk.specs.Walks.{with_alpha, led, found_of, Closed, Leveled, Walks};
+ghost use Rattle.lk.specs.Walks.{led, found_of, Closed, Leveled, Walks};
 
 use improve::push_two;
 use journal::track::Track;
@@ -86,7 +86,7 @@ pub fn lk_walk(plan: &Plan, track: &mut Track, t1: Stop, t2: Stop, first: Pick) 
     requires fine { Fine plan.now.matrix.n 65535 first.partial first.t3.0 first.t4.0 }
     requires room { 5 * (track.old.held + 25) ≤ length track.old.journal.now }
     ensures same { SameTrack track.old track.new }
-    ensures walked { (ka : ℕ) (alpha : List StopOf) → Walks (led (with_alpha plan.now ka alpha) t1.0 t2.0 (track_in track.old) (trial_in first)) track.old track.new result }
+    ensures walked { (ka : ℕ) (alpha : List StopOf) → Walks (led (plan_with plan.now ka alpha) t1.0 t2.0 (track_in track.old) (trial_in first)) track.old track.new result }
 {
     let mut st = lk_new(t1, t2);
     let mut best = Mark {
@@ -139,7 +139,7 @@ pub fn lk_deepen(plan: &Plan, work: &mut Work, t1: Stop, t2: Stop, first: Pick) 
     requires fine { Fine plan.now.matrix.n 65535 first.partial first.t3.0 first.t4.0 }
     requires room { 5 * (work.old.track.now.held + 25) ≤ length work.old.track.now.journal.now }
     ensures same { SameWork work.old work.new }
-    ensures stepped { (ka : ℕ) (alpha : List StopOf) → Steps 25 (found_of t1.0 t2.0 (track_in work.old.track.now) (led (with_alpha plan.now ka alpha) t1.0 t2.0 (track_in work.old.track.now) (trial_in first))) work.old work.new result }
+    ensures stepped { (ka : ℕ) (alpha : List StopOf) → Steps 25 (found_of t1.0 t2.0 (track_in work.old.track.now) (led (plan_with plan.now ka alpha) t1.0 t2.0 (track_in work.old.track.now) (trial_in first))) work.old work.new result }
 {
     let track = &mut *work.track;
     let walk = lk_walk(plan, track, t1, t2, first);
@@ -160,7 +160,7 @@ pub fn lk_side(plan: &Plan, work: &mut Work, fwd: bool, t1: Stop) -> u32
     requires t1_low { t1.0 < length work.old.track.now.stops.now }
     requires room { 5 * (work.old.track.now.held + 25) ≤ length work.old.track.now.journal.now }
     ensures same { SameWork work.old work.new }
-    ensures stepped { (ka : ℕ) (alpha : List StopOf) → Steps 25 (lk_side_of (with_alpha plan.now ka alpha) t1.0 fwd (track_in work.old.track.now)) work.old work.new result }
+    ensures stepped { (ka : ℕ) (alpha : List StopOf) → Steps 25 (lk_side_of (plan_with plan.now ka alpha) t1.0 fwd (track_in work.old.track.now)) work.old work.new result }
 {
     let round = work.track.round();
     let t2 = round.ahead(fwd, t1);
@@ -185,7 +185,7 @@ pub fn lk_from(plan: &Plan, work: &mut Work, t1: Stop) -> u32
     requires t1_low { t1.0 < length work.old.track.now.stops.now }
     requires room { 5 * (work.old.track.now.held + 25) ≤ length work.old.track.now.journal.now }
     ensures same { SameWork work.old work.new }
-    ensures stepped { (ka : ℕ) (alpha : List StopOf) → Steps 25 (lk_from_of (with_alpha plan.now ka alpha) t1.0 (track_in work.old.track.now)) work.old work.new result }
+    ensures stepped { (ka : ℕ) (alpha : List StopOf) → Steps 25 (lk_from_of (plan_with plan.now ka alpha) t1.0 (track_in work.old.track.now)) work.old work.new result }
 {
     if plan.matrix.n < 5 {
         return 0;
