@@ -35,6 +35,7 @@ pub struct Picks {
 const BREADTH: [usize; 2] = [3, 1];
 
 // How many continuations a level tries.
+#[tactic(auto, using(crate::proofs::ShownLaws::breadth_in, laws::proofs::LoneLaws::breadth_one))]
 pub fn lk_breadth(level: usize) -> usize
     ensures { result ≡ breadth level }
 {
@@ -55,6 +56,7 @@ fn no_pick() -> Pick
 }
 
 // A continuation put where it belongs, behind the equal ones.
+#[tactic(auto, using(crate::proofs::ShownLaws::placed_1, crate::proofs::ShownLaws::placed_2, crate::proofs::ShownLaws::placed_3, crate::proofs::ShownLaws::placed_4))]
 fn place_pick(ps: Picks, p: Pick) -> Picks
     requires { 0 < p.partial }
     ensures { Placed ps p result }
@@ -75,6 +77,7 @@ fn place_pick(ps: Picks, p: Pick) -> Picks
 }
 
 // The i-th of the best three; none beyond the first level's breadth.
+#[tactic(auto, using(crate::proofs::ShownLaws::breadth_first, crate::proofs::ShownLaws::at_first, crate::proofs::ShownLaws::at_second, crate::proofs::ShownLaws::at_third, crate::proofs::ShownLaws::at_none))]
 pub fn pick_at(ps: Picks, i: usize) -> Pick
     ensures { IsAt ps i result }
 {
