@@ -99,16 +99,15 @@ pub fn lk_walk(plan: &Plan, track: &mut Track, t1: Stop, t2: Stop, first: Pick) 
     let mut level: usize = 0;
     while 0 < p.partial {
         flip(track, t1, end, p.t3);
-        let come = leg_word(end, p.t3);
-        let gone = leg_word(p.t3, p.t4);
+        let made = level + 1;
         st.steps[level] = p.t3.0 * 4096 + p.t4.0;
-        st.steps_len = level + 1;
-        st.added[level] = come;
-        st.added_len = level + 1;
-        st.removed[level + 1] = gone;
-        st.removed_len = level + 2;
+        st.steps_len = made;
+        st.added[level] = leg_word(end, p.t3);
+        st.added_len = made;
+        st.removed[made] = leg_word(p.t3, p.t4);
+        st.removed_len = made + 1;
+        level = made;
         let closing = plan.dist(p.t4, t1);
-        level += 1;
         best = better_of(best, p.partial, closing, level, track.held);
         end = p.t4;
         p = lk_level(plan, &track.round(), &st, t1, end, p.partial);
