@@ -26,7 +26,7 @@ use Rattle.queue.specs.Lines.{InLine, Waits}
 use Rattle.moves.specs.Moves.{Made}
 use Rattle.work.specs.declared.work.Work.{Work}
 use Rattle.improve.specs.Steps.{near_plan, plan_with, Stepped, Steps}
-use Rattle.improve.proofs.StepLaws.{stepped_some}
+use Rattle.improve.proofs.StepLaws.{stepped_none, stepped_some}
 use Rattle.lk_state.specs.Stacks.{stops_in}
 use Rattle.lk_scans.specs.Picked.{step_in, conts_in, conts_on, cont_is, trial_in, shown_from, Firsts, IsAt}
 use Rattle.lk_scans.specs.declared.Pick.{Pick}
@@ -205,7 +205,7 @@ module _ {p : Plan} {fwd : Bool} {t1 t2 : Stop} {a : Work} {ps : Picks} {b : Wor
 
 -- ---- both sides
 module _ (p : PlanOf) (t1 : Stop) (t : Track) where
-  pub from_few : length t.round < 5 → lk_from p t1 t ≡ nothing t
+  from_few : length t.round < 5 → lk_from p t1 t ≡ nothing t
   unfolding lk_from
   from_few h = rw (lt-ltb (length t.round) 5 h)
 
@@ -223,6 +223,11 @@ module _ (p : PlanOf) (t1 : Stop) (t : Track) where
 else_first : (f : Found) (other : Track → Found) → 0 < f.gain → or_else f other ≡ f
 unfolding or_else
 else_first f other h = by_gain (λ (z : Found). z ≡ f) f.gain {x = other f.track} {y = λ g. f} (λ e. absurd (omega arith)) (λ g e. refl)
+
+-- too few stops: nothing is done
+pub from_none : (p : PlanOf) (t1 : Stop) (a : Work) → length a.track.now.stops.now < 5 → Steps 25 (lk_from p t1 (track_in a.track.now)) a a 0
+unfolding track_of
+from_none p t1 a h = stepped_none (from_few p t1 (track_in a.track.now) h) refl a.track.now.tied a.track.now.good a.queue.now.in_line
 
 module _ (p : PlanOf) (t1 : Stop) (a b : Work) (long : 5 ≤ length a.track.now.stops.now) {gain : Time} (s : Steps 25 (lk_side p t1 true (track_in a.track.now)) a b gain) where
   -- the first side gains
