@@ -44,12 +44,6 @@ shown_from (suc zero) ps = shown (trial_in ps.b) (shown (trial_in ps.c) [])
 shown_from (suc (suc zero)) ps = shown (trial_in ps.c) []
 shown_from (suc (suc (suc i))) ps = []
 
--- a continuation with these numbers
-pub record IsPick (partial' : Time) (t3' t4' : Stop) (partial : Time) (t3 t4 : Stop) : Type 0 where
-  pub partial_is : partial ≡ partial'
-  pub third_is : t3 ≡ t3'
-  pub fourth_is : t4 ≡ t4'
-
 -- stops of n, and a partial gain of one leg more than g at most
 pub record Fine (n : ℕ) (g partial : Time) (t3 t4 : Stop) : Type 0 where
   pub low3 : t3 < n

@@ -7,7 +7,7 @@ ghost use Rattle.rules.specs.Ring.{leg};
 ghost use Rattle.rules.specs.Step.{among, best};
 ghost use Rattle.rules.specs.Lk.{breadth};
 ghost use Rattle.lk_state.specs.Stacks.{legs_in};
-ghost use Rattle.lk_scans.specs.Picked.{conts_on, Picked, Firsts, Placed, IsPick, IsAt};
+ghost use Rattle.lk_scans.specs.Picked.{conts_on, Picked, Firsts, Placed, IsAt};
 
 use legs::Stop;
 use legs::plan::Plan;
@@ -15,7 +15,7 @@ use lk_state::{LkState, has, leg_word};
 use moves::entries::either;
 use ring::round::Round;
 
-// A continuation: its partial gain, 0 for none, and its stops.
+// A continuation: its partial gain, 0 for none, and its stops. No Option: the scans compare with the best so far, and 0 is below each.
 #[derive(Clone, Copy)]
 pub struct Pick {
     pub partial: u32,
@@ -31,6 +31,13 @@ pub struct Picks {
     pub c: Pick,
 }
 
+// No continuation.
+const NONE: Pick = Pick {
+    partial: 0,
+    t3: Stop(0),
+    t4: Stop(0),
+};
+
 // The breadth of the first levels; 1 beyond.
 const BREADTH: [usize; 2] = [3, 1];
 
@@ -43,16 +50,6 @@ pub fn lk_breadth(level: usize) -> usize
         return BREADTH[level];
     }
     1
-}
-
-fn no_pick() -> Pick
-    ensures { IsPick 0 0 0 result.partial result.t3.0 result.t4.0 }
-{
-    Pick {
-        partial: 0,
-        t3: Stop(0),
-        t4: Stop(0),
-    }
 }
 
 // A continuation put where it belongs, behind the equal ones.
@@ -125,11 +122,10 @@ pub fn lk_first(plan: &Plan, round: &Round, t1: Stop, t2: Stop, g: u32) -> Picks
 {
     let fwd = round.succ(t1) == t2;
     let t2_next = round.ahead(fwd, t2);
-    let none = no_pick();
     let mut ps = Picks {
-        a: none,
-        b: none,
-        c: none,
+        a: NONE,
+        b: NONE,
+        c: NONE,
     };
     for i in 0..plan.near.count {
         let t3 = plan.near(t2, i);
@@ -159,7 +155,7 @@ pub fn lk_next(plan: &Plan, round: &Round, st: &LkState, t1: Stop, t2: Stop, g: 
 {
     let fwd = round.succ(t1) == t2;
     let t2_next = round.ahead(fwd, t2);
-    let mut best = no_pick();
+    let mut best = NONE;
     for i in 0..plan.near.count {
         let t3 = plan.near(t2, i);
         let d23 = plan.dist(t2, t3);

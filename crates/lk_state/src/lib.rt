@@ -14,7 +14,7 @@ use legs::Stop;
 use queue::queue::Queue;
 use ring::times::edge;
 
-// Three stacks with their counts, and the first t2. A step word is t3 * 4096 + t4, a leg word low * 4096 + high.
+// Three stacks with their counts, for there is no heap, and the first t2. A step word is t3 * 4096 + t4, a leg word low * 4096 + high.
 #[derive(Clone, Copy)]
 pub struct LkState {
     pub steps: [u32; 100],

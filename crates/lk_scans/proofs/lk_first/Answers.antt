@@ -1,31 +1,20 @@
 use mathlib.Core.Path.{◌≡◌, refl, ap, ◌∙◌}
-use mathlib.Core.List.{List, [], ◌∷◌}
+use mathlib.Core.List.{[], ◌∷◌}
 use native.Mathlib.Omega.{arith}
 use lib.Dec.{eqb}
 use Rattle.rules.specs.Ring.{leg, succ as succ_of}
-use Rattle.rules.specs.Improve.{Trial}
 use Rattle.rules.specs.Step.{best}
-use Rattle.lk_scans.specs.Picked.{cont_is, trial_in, shown_from, Fine}
-use Rattle.lk_scans.proofs.LeftLaws.{left, left_all, left_done, left_stop, left_skip, first_turn, best_end}
-use Rattle.lk_scans.proofs.ShownLaws.{shown_none}
+use Rattle.lk_scans.specs.Picked.{cont_is, shown, trial_in, shown_from, Fine}
+use Rattle.lk_scans.proofs.LeftLaws.{left_all, left_done, left_stop, left_skip, first_turn, best_end}
 use Rattle.lk_scans.proofs.lk_first.Goals as goal
 
 pub loop-i-init : goal.loop-i-init
-unfolding cont_is shown_from trial_in
+unfolding cont_is shown shown_from trial_in
 loop-i-init c =
     let a = c.args in
-    let none = c.no_pick-none.result in
-    let removed = leg a.t1.0 a.t2.0 ∷ [] in
-    let z : none.partial ≡ 0 = c.no_pick-none.ensures.partial_is in
     let b : c.eq-fwd.result ≡ eqb (succ_of a.round.now.stops.now a.t1.0) a.t2.0 = cc (c.succ.ensures.is, c.eq-fwd.ensures) in
-    let f : Fine a.plan.now.matrix.n a.g none.partial none.t3.0 none.t4.0 = record { low3 = omega (arith, c.no_pick-none.ensures.third_is, c.requires.t1_low); low4 = omega (arith, c.no_pick-none.ensures.fourth_is, c.requires.t1_low); small = omega (arith, z) } in (
-      record { fine_a = f; fine_b = f; fine_c = f },
-      (
-        record { second = omega arith; third = omega arith },
-        ap (λ (l : List Trial). best 3 l (left a.plan.now a.round.now [] removed a.t1.0 a.t2.0 a.g c.eq-fwd.result 0)) (shown_none (cont_is none.partial none.t3.0 none.t4.0) _ (omega (arith, z)))
-            ∙ ap (best 3 []) (left_all a.plan.now a.round.now [] removed a.t1.0 a.t2.0 a.g c.eq-fwd.result b),
-      ),
-    )
+    let f : Fine a.plan.now.matrix.n a.g 0 0 0 = record { low3 = omega (arith, c.requires.t1_low); low4 = omega (arith, c.requires.t1_low); small = omega arith } in
+    (record { fine_a = f; fine_b = f; fine_c = f }, (record { second = omega arith; third = omega arith }, ap (best 3 []) (left_all a.plan.now a.round.now [] (leg a.t1.0 a.t2.0 ∷ []) a.t1.0 a.t2.0 a.g c.eq-fwd.result b)))
 
 pub loop-i-preserved-then-either : goal.loop-i-preserved-then-either
 loop-i-preserved-then-either c =

@@ -1,29 +1,21 @@
-use mathlib.Core.Path.{◌≡◌, ap, ◌∙◌}
-use mathlib.Core.List.{List, []}
+use mathlib.Core.Path.{◌≡◌, ap}
+use mathlib.Core.List.{[]}
 use native.Mathlib.Omega.{arith}
 use lib.Dec.{eqb}
 use Rattle.rules.specs.Ring.{succ as succ_of}
-use Rattle.rules.specs.Improve.{Trial}
 use Rattle.rules.specs.Step.{best as best_of}
 use Rattle.lk_state.specs.Stacks.{legs_in}
-use Rattle.lk_scans.specs.Picked.{cont_is}
-use Rattle.lk_scans.proofs.LeftLaws.{left, left_all, left_done, left_stop, left_skip, left_bar, left_under, left_over, best_end}
-use Rattle.lk_scans.proofs.ShownLaws.{shown_none}
+use Rattle.lk_scans.specs.Picked.{cont_is, shown}
+use Rattle.lk_scans.proofs.LeftLaws.{left_all, left_done, left_stop, left_skip, left_bar, left_under, left_over, best_end}
 use Rattle.lk_scans.proofs.lk_next.Goals as goal
 
 pub loop-i-init : goal.loop-i-init
-unfolding cont_is
+unfolding cont_is shown
 loop-i-init c =
     let a = c.args in
     let s = a.st.now in
-    let added = legs_in s.added s.added_len in
-    let removed = legs_in s.removed s.removed_len in
-    let z : c.no_pick-best.result.partial ≡ 0 = c.no_pick-best.ensures.partial_is in
-    let f : c.eq-fwd.result ≡ eqb (succ_of a.round.now.stops.now a.t1.0) a.t2.0 = cc (c.succ.ensures.is, c.eq-fwd.ensures) in (
-      record { low3 = omega (arith, c.no_pick-best.ensures.third_is, c.requires.t1_low); low4 = omega (arith, c.no_pick-best.ensures.fourth_is, c.requires.t1_low); small = omega (arith, z) },
-      ap (λ (l : List Trial). best_of 1 l (left a.plan.now a.round.now added removed a.t1.0 a.t2.0 a.g c.eq-fwd.result 0)) (shown_none (cont_is c.no_pick-best.result.partial c.no_pick-best.result.t3.0 c.no_pick-best.result.t4.0) [] (omega (arith, z)))
-          ∙ ap (best_of 1 []) (left_all a.plan.now a.round.now added removed a.t1.0 a.t2.0 a.g c.eq-fwd.result f),
-    )
+    let b : c.eq-fwd.result ≡ eqb (succ_of a.round.now.stops.now a.t1.0) a.t2.0 = cc (c.succ.ensures.is, c.eq-fwd.ensures) in
+    (record { low3 = omega (arith, c.requires.t1_low); low4 = omega (arith, c.requires.t1_low); small = omega arith }, ap (best_of 1 []) (left_all a.plan.now a.round.now (legs_in s.added s.added_len) (legs_in s.removed s.removed_len) a.t1.0 a.t2.0 a.g c.eq-fwd.result b))
 
 pub loop-i-preserved-then-barred : goal.loop-i-preserved-then-barred
 loop-i-preserved-then-barred c =
