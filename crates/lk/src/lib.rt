@@ -112,8 +112,10 @@ pub fn lk_walk(plan: &Plan, track: &mut Track, t1: Stop, t2: Stop, first: Pick) 
         end = p.t4;
         p = lk_level(plan, &track.round(), &st, t1, end, p.partial);
     }
-    let steps = st.steps;
-    Walk { steps, mark: best }
+    Walk {
+        steps: st.steps,
+        mark: best,
+    }
 }
 
 // Pushes t1, t2 and the stops of the moves that last, in order.
