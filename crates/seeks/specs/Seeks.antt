@@ -6,7 +6,6 @@ use Rattle.rules.specs.Ring.{Leg, leg}
 use Rattle.rules.specs.Improve.{Trial, sixths}
 use Rattle.rules.specs.Step.{among}
 use Rattle.rules.specs.Lk3.{may_go_on}
-use Rattle.rules.specs.Plan.{leg_in}
 use Rattle.legs.specs.declared.plan.Plan.{Plan}
 use Rattle.moves.specs.Moves.{number_of, case_of}
 use Rattle.moves.specs.declared.moves.Move.{Move}
@@ -81,10 +80,6 @@ pub record Seeks (n : ℕ) (most : Time) (w : Sought) (closed : Bool) (case : �
   pub small : gain ≤ most
 
 -- ---- the same of what is lent
--- the times of its legs
-abbrev pub leg_at : Plan → Legs
-leg_at p = leg_in p.matrix.n p.matrix.times.now
-
 -- a move as it stands there, and as the trial that it is
 abbrev pub pick_in : Move → Pick
 pick_in m = pick m.case m.gain m.t3.0 m.t4.0 m.t5.0 m.t6.0

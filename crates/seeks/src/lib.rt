@@ -3,9 +3,9 @@
 #![tactic(auto)]
 
 ghost use Rattle.std.specs.Prelude.{◌≡◌, true, false, ◌&&◌, [], ◌∷◌, ℕ, ◌+◌, ◌<◌, ◌≤◌, max, ltb, length};
-ghost use Rattle.moves.specs.Moves.{Six};
+ghost use Rattle.tries.specs.Picks.{legs_in as leg_at, Tries};
 ghost use Rattle.lk_state.specs.Stacks.{legs_in};
-ghost use Rattle.seeks.specs.Seeks.{seek_of, unbarred, sought_fifth, Barring, leg_at, pick_in, trial_in, may_at, LastsIn, SeeksIn};
+ghost use Rattle.seeks.specs.Seeks.{seek_of, unbarred, sought_fifth, Barring, pick_in, trial_in, may_at, LastsIn, SeeksIn};
 
 use legs::Stop;
 use legs::plan::Plan;
@@ -22,6 +22,7 @@ pub struct Sought {
 }
 
 // No leg is added that this step removed, none removed that it added.
+#[tactic(auto, unfolding(crate::specs::Seeks::unbarred))]
 pub fn allowed(st: &LkState, t2: Stop, mv: Move) -> bool
     requires added_bound { st.now.added_len ≤ 98 }
     requires removed_bound { st.now.removed_len ≤ 99 }
@@ -37,6 +38,7 @@ pub fn allowed(st: &LkState, t2: Stop, mv: Move) -> bool
 
 // Whether a 3-opt move is better than the best so far and may be gone on with: another level is left, some t7 could keep the gain above 0, as
 // the first entry of t6's near list tells, and no leg is barred.
+#[tactic(auto, using(crate::proofs::MayLaws::may_is))]
 pub fn goes_on(plan: &Plan, st: &LkState, deeper: bool, t2: Stop, mv: Move, floor: u32) -> bool
     requires barring { Barring plan.now st.now }
     requires t2_low { t2.0 < plan.now.matrix.n }
@@ -58,6 +60,7 @@ pub fn goes_on(plan: &Plan, st: &LkState, deeper: bool, t2: Stop, mv: Move, floo
 }
 
 // One 3-opt move, its gain the partial one.
+#[tactic(auto, using(crate::proofs::MayLaws::one_closes, crate::proofs::MayLaws::one_better, crate::proofs::MayLaws::one_stays), unfolding(crate::specs::Seeks::gain_of))]
 pub fn seek_one(
     plan: &Plan,
     st: &LkState,
@@ -95,6 +98,7 @@ pub fn seek_one(
 }
 
 // t4 before t3: t6 is ahead of t5 where that lies between t2 and t4, else behind it.
+#[tactic(auto, using(crate::proofs::FifthLaws::before_one))]
 pub fn seek_before(
     plan: &Plan,
     round: &Round,
@@ -111,7 +115,7 @@ pub fn seek_before(
 ) -> Sought
     requires size { plan.now.matrix.n ≡ length round.now.stops.now }
     requires barring { Barring plan.now st.now }
-    requires six { Six plan.now.matrix.n t1.0 t2.0 t3.0 t4.0 t5.0 t5.0 }
+    requires tries { Tries plan.now.matrix.n t1.0 t2.0 t3.0 t4.0 t5.0 }
     requires g3_bound { g3 ≤ 6684570 }
     requires lasts { LastsIn plan.now.matrix.n best }
     ensures { SeeksIn plan.now.matrix.n (max (g3 + 65535) best.gain) (sought_fifth (leg_at plan.now) (may_at plan.now st.now deeper t2.0) (pick_in best) fwd round.now.stops.now false t1.0 t2.0 t3.0 t4.0 t5.0 g3) result }
@@ -147,7 +151,7 @@ pub fn seek_after(
 ) -> Sought
     requires size { plan.now.matrix.n ≡ length round.now.stops.now }
     requires barring { Barring plan.now st.now }
-    requires six { Six plan.now.matrix.n t1.0 t2.0 t3.0 t4.0 t5.0 t5.0 }
+    requires tries { Tries plan.now.matrix.n t1.0 t2.0 t3.0 t4.0 t5.0 }
     requires g3_bound { g3 ≤ 6684570 }
     requires lasts { LastsIn plan.now.matrix.n best }
     ensures { SeeksIn plan.now.matrix.n (max (g3 + 65535) best.gain) (sought_fifth (leg_at plan.now) (may_at plan.now st.now deeper t2.0) (pick_in best) fwd round.now.stops.now true t1.0 t2.0 t3.0 t4.0 t5.0 g3) result }
@@ -204,18 +208,14 @@ pub fn seek_fifth(
 ) -> Sought
     requires size { plan.now.matrix.n ≡ length round.now.stops.now }
     requires barring { Barring plan.now st.now }
-    requires six { Six plan.now.matrix.n t1.0 t2.0 t3.0 t4.0 t5.0 t5.0 }
+    requires tries { Tries plan.now.matrix.n t1.0 t2.0 t3.0 t4.0 t5.0 }
     requires g3_bound { g3 ≤ 6684570 }
     requires lasts { LastsIn plan.now.matrix.n best }
     ensures { SeeksIn plan.now.matrix.n (max (g3 + 65535) best.gain) (sought_fifth (leg_at plan.now) (may_at plan.now st.now deeper t2.0) (pick_in best) fwd round.now.stops.now after t1.0 t2.0 t3.0 t4.0 t5.0 g3) result }
 {
     if after {
-        seek_after(
-            plan, round, st, deeper, fwd, g3, t1, t2, t3, t4, t5, best,
-        )
+        seek_after(plan, round, st, deeper, fwd, g3, t1, t2, t3, t4, t5, best)
     } else {
-        seek_before(
-            plan, round, st, deeper, fwd, g3, t1, t2, t3, t4, t5, best,
-        )
+        seek_before(plan, round, st, deeper, fwd, g3, t1, t2, t3, t4, t5, best)
     }
 }
