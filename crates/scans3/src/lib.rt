@@ -15,6 +15,7 @@ use seeks::{Sought, seek_fifth};
 use tries::{no_move, try_two};
 
 // Whether t3 is skipped: its partial gain is 0 or less, or it is t1 or beside t2.
+#[tactic(auto, unfolding(crate::specs::Scans::out3))]
 pub fn out3(g: u32, d23: u32, t3: Stop, t1: Stop, next: Stop) -> bool
     ensures { result ≡ out3_of g d23 t3.0 t1.0 next.0 }
 {
@@ -22,6 +23,7 @@ pub fn out3(g: u32, d23: u32, t3: Stop, t1: Stop, next: Stop) -> bool
 }
 
 // Whether t5 is skipped: its partial gain is 0 or less, or it is t1 or beside t4.
+#[tactic(auto, unfolding(crate::specs::Scans::out5))]
 pub fn out5(g2: u32, d45: u32, t5: Stop, t1: Stop, next: Stop, prev: Stop) -> bool
     ensures { result ≡ out5_of g2 d45 t5.0 t1.0 next.0 prev.0 }
 {
@@ -30,6 +32,7 @@ pub fn out5(g2: u32, d45: u32, t5: Stop, t1: Stop, next: Stop, prev: Stop) -> bo
 
 // The first move that closes with a gain, else the best to go on with: t3 from t2's alpha list, t4 before, then after t3, t5 from t4's alpha
 // list. An entry that fails is skipped, and the scan goes on.
+#[tactic(auto, using(crate::proofs::ScanLaws::alpha_long, crate::proofs::ScanLaws::rich3, crate::proofs::ScanLaws::rich5))]
 pub fn lk3_scan(
     plan: &Plan,
     round: &Round,
@@ -52,7 +55,7 @@ pub fn lk3_scan(
             continue 'thirds;
         }
         let g1 = g - d23;
-        for side in 0..2 {
+        for side in 0..2usize {
             let after = side == 1;
             let t4 = round.beside(fwd, after, t3);
             let g2 = g1 + plan.dist(t3, t4);
