@@ -1,5 +1,5 @@
 -- Work that was undone. Assumes nothing.
-use Rattle.std.specs.Prelude.{ℕ, ◌≡◌, List, []}
+use Rattle.std.specs.Prelude.{◌≡◌, List, []}
 use Rattle.rules.specs.Words.{Time}
 use Rattle.rules.specs.Journal.{entries_of, undo_all}
 use Rattle.queue.specs.Queues.{Queued}
