@@ -66,14 +66,7 @@ pub fn take_step(plan: &Plan, work: &mut Work, step: u32) -> u32
 }
 
 // Takes stops until the descent ends; a committed one empties the journal before each stop and on leaving.
-pub fn run(
-    plan: &Plan,
-    work: &mut Work,
-    step: u32,
-    keeps: bool,
-    budget: u32,
-    time: u32,
-) -> Descent
+pub fn run(plan: &Plan, work: &mut Work, step: u32, keeps: bool, budget: u32, time: u32) -> Descent
     requires size { plan.now.matrix.n ≡ length work.old.track.now.stops.now }
     requires some { 1 ≤ plan.now.near.count }
     requires fit { Fit (plan_in plan.now) plan.now.matrix.n }
