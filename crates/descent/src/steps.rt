@@ -54,7 +54,8 @@ pub fn lk3_only_step(plan: &Plan, work: &mut Work, v: Stop) -> u32
     ensures same { SameWork work.old work.new }
     ensures stepped { Steps 100 (step_from_of (plan_in plan.now) 2 v.0 (track_in work.old.track.now)) work.old work.new result }
 {
-    if work.track.stops.len() < 5 {
+    let few = work.track.stops.len() < 5;
+    if few {
         improve_both(plan, work, v)
     } else {
         lk3_from(plan, work, v)
