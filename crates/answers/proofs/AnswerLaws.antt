@@ -1,10 +1,12 @@
 -- The whole answer, from its five parts.
-use Prim.Native.Nat.{ℕ, ◌+◌, ◌*◌, ◌/◌, ◌≤◌, ◌<◌}
+use Prim.Native.Nat.{ℕ, ◌+◌, ◌*◌, ◌/◌, ◌%◌, ◌≤◌, ◌<◌}
 use mathlib.Core.Path.{◌≡◌, sym, ap, ◌∙◌, subst}
 use mathlib.Core.List.{List, ◌++◌, append_assoc}
 use native.Mathlib.Nat.{zero-add}
 use native.Mathlib.Omega.{arith}
 use lib.ListN.{length, drop, length-append}
+use Rattle.std.specs.Int.Bits.{bit_or}
+use Rattle.std.proofs.lemmas.Nat.{or_shifted}
 use Rattle.rules.specs.Lists.{each}
 use Rattle.rules.specs.Bits.{bits, bytes_of}
 use Rattle.rules.specs.Search.{Answer}
@@ -18,8 +20,15 @@ module _ (ended time units kicks : ℕ) (round : List ℕ) (small : ended < 4) (
   abbrev whole : ℕ → Answer
   whole draw = record { round = round; time = time; units = units; kicks = kicks; ended = ended; draw = draw }
 
+  -- the first word, as the code writes it: 1 << 28 | ended << 26 | n << 13
   abbrev word : ℕ
-  word = 268435456 + ended * 67108864 + length round * 8192
+  word = bit_or (bit_or 268435456 (ended * 67108864 % 4294967296)) (length round * 8192 % 4294967296)
+
+  word_is : word ≡ 1 * 268435456 + (ended * 67108864 + (length round * 8192 + 0))
+  word_is =
+      let a : bit_or 268435456 (ended * 67108864 % 4294967296) ≡ 268435456 + ended * 67108864 % 4294967296 = or_shifted 1 28 (ended * 67108864 % 4294967296) (omega arith) in
+      let b : 268435456 + ended * 67108864 % 4294967296 ≡ (4 + ended) * 67108864 = omega arith in
+      rw (a, b) (or_shifted (4 + ended) 26 (length round * 8192 % 4294967296) (omega arith) ∙ omega arith)
 
   pub word_bits : (rest : List ℕ) → bits 4 1 ++ (bits 2 ended ++ (bits 13 (length round) ++ (bits 13 0 ++ rest))) ≡ bits 32 word ++ rest
   word_bits rest =
@@ -27,8 +36,7 @@ module _ (ended time units kicks : ℕ) (round : List ℕ) (small : ended < 4) (
       let b : bits 28 (ended * 67108864 + (length round * 8192 + 0)) ≡ bits 2 ended ++ bits 26 (length round * 8192 + 0) = bits_join 2 26 ended (length round * 8192 + 0) (omega arith) in
       let c : bits 32 (1 * 268435456 + (ended * 67108864 + (length round * 8192 + 0))) ≡ bits 4 1 ++ bits 28 (ended * 67108864 + (length round * 8192 + 0))
       = bits_join 4 28 1 (ended * 67108864 + (length round * 8192 + 0)) (omega arith) in
-      let w : word ≡ 1 * 268435456 + (ended * 67108864 + (length round * 8192 + 0)) = omega arith in
-      sym (ap (λ (z : ℕ). bits 32 z ++ rest) w ∙ (simp (c, b, a, append_assoc)))
+      sym (ap (λ (z : ℕ). bits 32 z ++ rest) word_is ∙ (simp (c, b, a, append_assoc)))
 
   pub answer_parts : (draw : ℕ) → answer_bytes (whole draw) ≡ (((bytes_of (bits 32 word) ++ bytes_of (bits 32 time)) ++ bytes_of (bits 32 units)) ++ bytes_of (bits 32 kicks)) ++ bytes_of (each (bits 12) round)
   unfolding answer_bytes

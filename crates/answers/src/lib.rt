@@ -15,28 +15,40 @@ pub fn put_round(a: &mut [u8], round: &[u32])
     requires { (16 + (12 * length round.now + 7) / 8 ≤ length a.old) × (length round.now ≤ 4096) × Small round.now }
     ensures { Wrote a.old 16 (bytes_of (each (bits 12) round.now)) a.new }
 {
-    let n = round.len();
-    let mut at: usize = 16;
-    let mut i: usize = 0;
-    while i + 1 < n {
-        put_pair(a, at, round[i], round[i + 1]);
-        at += 3;
-        i += 2;
+    let (pairs, last) = round.as_chunks::<2>();
+    for (i, &[x, y]) in pairs.iter().enumerate() {
+        put_pair(a, 16 + 3 * i, x, y);
     }
-    if i < n {
-        put_last(a, at, round[i]);
+    if let [x] = last {
+        put_last(a, 16 + 3 * pairs.len(), *x);
     }
 }
 
-// "version 4, ended 2, n 13, spare 13; time 32; units 32; kicks 32; round, 12 each; zero bits. Bytes beyond it stay."
-pub fn write_answer(a: &mut [u8], ended: u32, time: u32, units: u32, kicks: u32, round: &[u32])
-    requires { (16 + (12 * length round.now + 7) / 8 ≤ length a.old) × (length round.now ≤ 4096) × (ended < 4) × Small round.now }
-    ensures { Written round.now time units kicks ended a.old a.new }
-{
-    let n = round.len() as u32;
-    put32(a, 0, 268435456 + ended * 67108864 + n * 8192);
-    put32(a, 4, time);
-    put32(a, 8, units);
-    put32(a, 12, kicks);
-    put_round(a, round);
+// An answer: 1 if the search ended with no unit left, else 0; the round's time, the units and kicks, and the best round.
+// ended is a number and no bool: its two bits may be any.
+#[derive(Clone, Copy)]
+pub struct Answer<'a> {
+    pub ended: u32,
+    pub time: u32,
+    pub units: u32,
+    pub kicks: u32,
+    pub round: &'a [u32],
+    pub ghost two_bits: { ended < 4 },
+    pub ghost short: { length round.now ≤ 4096 },
+    pub ghost small: { Small round.now },
+}
+
+impl Answer<'_> {
+    // "version 4, ended 2, n 13, spare 13; time 32; units 32; kicks 32; round, 12 each; zero bits. Bytes beyond it stay."
+    pub fn write(&self, a: &mut [u8])
+        requires { 16 + (12 * length self.now.round.now + 7) / 8 ≤ length a.old }
+        ensures { Written self.now.round.now self.now.time self.now.units self.now.kicks self.now.ended a.old a.new }
+    {
+        let n = self.round.len() as u32;
+        put32(a, 0, 1 << 28 | self.ended << 26 | n << 13);
+        put32(a, 4, self.time);
+        put32(a, 8, self.units);
+        put32(a, 12, self.kicks);
+        put_round(a, self.round);
+    }
 }

@@ -4,7 +4,10 @@ use mathlib.Core.List.{List}
 use Prim.Native.Nat.{ℕ, ◌+◌, ◌*◌, ◌/◌, ◌%◌, ◌^◌, ◌≤◌, ◌<◌}
 use native.Mathlib.Nat.{mod-lt}
 use native.Mathlib.Omega.{arith}
-use lib.ListN.{length, get_or}
+use lib.ListN.{length, get_or, take, drop}
+use Rattle.std.proofs.lemmas.List.{get_or-take, get_or-drop}
+use Rattle.std.proofs.Common.{w16, w32, w64}
+use Rattle.std.specs.Int.{from_be_bytes}
 use lib.Pow.{pow_pos}
 use Rattle.rules.specs.Bits.{field, bits_of}
 use Rattle.bits.specs.Read.{Reads}
@@ -33,17 +36,46 @@ inside bytes p r w s p' all v x l e f g h =
     rw f (record { is = b; below = rw g (mod-lt (v / 2 ^ s) (pow_pos w)) })
 
 -- ---- one for each reader
-module _ (s : List ℕ) (q : ℕ) where
-  pub read_16 : (x y : ℕ) → q + 1 < length s → x ≡ get_or s q 0 → y ≡ get_or s (q + 1) 0 → x < 256 → y < 256 → Reads s (8 * q) 16 (x * 256 + y)
-  read_16 x y l e f hx hy =
-      joins s (8 * q) 8 8 (8 * (q + 1)) 16 x y (x * 256 + y) (omega arith) (omega arith) refl refl
-      (rw e (reads_byte s q (omega arith) (rw e at hx))) (rw f (reads_byte s (q + 1) l (rw f at hy)))
+module _ (s : List ℕ) (h : (i : ℕ) → get_or s i 0 < 256) where
+  -- two, four and eight bytes from byte q on
+  two : (q : ℕ) → q + 1 < length s → Reads s (8 * q) 16 (get_or s q 0 * 256 + get_or s (q + 1) 0)
+  two q l = joins s (8 * q) 8 8 (8 * (q + 1)) 16 _ _ _ (omega arith) (omega arith) refl refl (reads_byte s q (omega arith) (h q)) (reads_byte s (q + 1) l (h (q + 1)))
 
-  pub read_32 : (x y : ℕ) → q + 3 < length s → Reads s (8 * q) 16 x → Reads s (8 * (q + 2)) 16 y → Reads s (8 * q) 32 (x * 65536 + y)
-  read_32 x y l hx hy = joins s (8 * q) 16 16 (8 * (q + 2)) 32 x y (x * 65536 + y) (omega arith) (omega arith) refl refl hx hy
+  four : (q v : ℕ) → q + 3 < length s → v ≡ (get_or s q 0 * 256 + get_or s (q + 1) 0) * 65536 + (get_or s (q + 2) 0 * 256 + get_or s (q + 2 + 1) 0) → Reads s (8 * q) 32 v
+  four q v l e = joins s (8 * q) 16 16 (8 * (q + 2)) 32 _ _ v (omega arith) (omega arith) refl e (two q (omega arith)) (two (q + 2) (omega arith))
 
-  pub read_64 : (x y : ℕ) → q + 7 < length s → Reads s (8 * q) 32 x → Reads s (8 * (q + 4)) 32 y → Reads s (8 * q) 64 (x * 4294967296 + y)
-  read_64 x y l hx hy = joins s (8 * q) 32 32 (8 * (q + 4)) 64 x y (x * 4294967296 + y) (omega arith) (omega arith) refl refl hx hy
+  module _ (q : ℕ) where
+    byte : (n i j : ℕ) → i < n → j ≡ q + i → get_or (take n (drop q s)) i 0 ≡ get_or s j 0
+    byte n i j l e = get_or-take n (drop q s) i 0 l ∙ get_or-drop q s i 0 ∙ ap (λ (z : ℕ). get_or s z 0) (sym e)
+
+    module _ (v : ℕ) (l : List ℕ) where
+      pub read_16 : q + 1 < length s → l ≡ take 2 (drop q s) → v ≡ from_be_bytes w16 l → Reads s (8 * q) 16 v
+      read_16 r e f =
+          let g : v ≡ get_or s q 0 * 256 + get_or s (q + 1) 0 = f ∙ (rw e (omega (arith, byte 2 0 q (omega arith) (omega arith), byte 2 1 (q + 1) (omega arith) refl))) in
+          rw g (two q r)
+
+      pub read_32 : q + 3 < length s → l ≡ take 4 (drop q s) → v ≡ from_be_bytes w32 l → Reads s (8 * q) 32 v
+      read_32 r e f =
+          four q v r
+          (f
+          ∙ (rw e (omega (arith, byte 4 0 q (omega arith) (omega arith), byte 4 1 (q + 1) (omega arith) refl, byte 4 2 (q + 2) (omega arith) refl, byte 4 3 (q + 2 + 1) (omega arith) (omega arith)))))
+
+      pub read_64 : q + 7 < length s → l ≡ take 8 (drop q s) → v ≡ from_be_bytes w64 l → Reads s (8 * q) 64 v
+      read_64 r e f =
+          joins s (8 * q) 32 32 (8 * (q + 4)) 64 _ _ v (omega arith) (omega arith) refl
+          (f
+          ∙ (rw e (omega (
+            arith,
+            byte 8 0 q (omega arith) (omega arith),
+            byte 8 1 (q + 1) (omega arith) refl,
+            byte 8 2 (q + 2) (omega arith) refl,
+            byte 8 3 (q + 2 + 1) (omega arith) (omega arith),
+            byte 8 4 (q + 4) (omega arith) refl,
+            byte 8 5 (q + 4 + 1) (omega arith) (omega arith),
+            byte 8 6 (q + 4 + 2) (omega arith) (omega arith),
+            byte 8 7 (q + 4 + 2 + 1) (omega arith) (omega arith),
+          ))))
+          (four q _ (omega arith) refl) (four (q + 4) _ (omega arith) refl)
 
 pub read_12_even : (s : List ℕ) (p v : ℕ) → p + 12 ≤ 8 * length s → p % 8 ≡ 0 → Reads s (8 * (p / 8)) 16 v → Reads s p 12 (v / 16)
 read_12_even s p v l e h = inside s (8 * (p / 8)) 0 12 4 p 16 v (v / 16) (omega arith) refl (omega arith) (omega (arith, h.below)) h

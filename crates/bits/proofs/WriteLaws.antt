@@ -1,13 +1,17 @@
 -- Bytes written one after another.
-use Prim.Native.Nat.{ℕ, suc, ◌+◌, ◌*◌, ◌/◌, ◌%◌, ◌≤◌, ◌<◌}
-use mathlib.Core.Path.{◌≡◌, sym, ap, ◌∙◌}
-use mathlib.Core.List.{List, [], ◌∷◌, ◌++◌, append_assoc, append-nil}
+use Prim.Native.Nat.{ℕ, zero, suc, ◌+◌, ◌*◌, ◌/◌, ◌%◌, ◌^◌, ◌≤◌, ◌<◌}
+use mathlib.Core.Path.{◌≡◌, refl, sym, ap, ◌∙◌}
+use mathlib.Core.List.{List, ◌++◌, append_assoc}
 use native.Mathlib.Omega.{arith}
-use native.Mathlib.Numerals.{add-one}
-use lib.ListN.{length, take, drop, set, length-append, length-drop}
-use lib.Seq.{sets-eq, take_at, drop-drop, drop-append-add, length-take-le}
+use native.Mathlib.Nat.{pow-suc}
+use Rattle.std.proofs.Common.{pow-add}
+use lib.ListN.{length, take, drop, length-append, length-drop}
+use lib.Seq.{take_at, drop-drop, drop-append-add, length-take-le}
 use Rattle.rules.specs.Bits.{bits, bytes_of}
-use Rattle.laws.proofs.BitLaws.{bytes_16, bytes_32, bytes_24, bytes_12, bytes_of_none}
+use Rattle.laws.proofs.BitLaws.{bytes_12, bytes_of_byte, bytes_of_none, bits_join, bits_split}
+use Rattle.std.specs.Int.{byte_at, bytes_high_first}
+use Rattle.std.specs.Int.Bits.{bit_or}
+use Rattle.std.proofs.lemmas.Grind.{or_after_shift}
 use Rattle.bits.specs.Write.{Wrote}
 
 -- ---- one write after another
@@ -32,39 +36,38 @@ wrote_next l at x m to y r h e u w =
           ∙ ap (λ (z : List ℕ). take at l ++ z) (sym (append_assoc x y (drop (at + length (x ++ y)) l)));
     }
 
--- ---- stores
-pub wrote_two : (l : List ℕ) (at x y : ℕ) → at + 2 ≤ length l → Wrote l at (x ∷ y ∷ []) (set (set l at x) (at + 1) y)
-wrote_two l at x y h = record { is = rw (add-one at) (sets-eq (x ∷ y ∷ []) l at h ∙ append_assoc (take at l) (x ∷ y ∷ []) (drop (at + 2) l)) }
+-- ---- the bytes of a number
+-- a byte is 8 bits
+words : (k : ℕ) → 2 ^ (8 * k) ≡ 256 ^ k
+words zero = refl
+words (suc k) = let e : 8 * suc k ≡ 8 * k + 8 = omega arith in rw (e, pow-add, words k) (sym (pow-suc 256 k))
 
-pub wrote_three : (l : List ℕ) (at x y z : ℕ) → at + 3 ≤ length l → Wrote l at (x ∷ y ∷ z ∷ []) (set (set (set l at x) (at + 1) y) (at + 2) z)
-wrote_three l at x y z h =
-    let e : at + 2 ≡ suc (suc at) = omega arith in
-    record { is = rw (add-one at, e) (sets-eq (x ∷ y ∷ z ∷ []) l at h ∙ append_assoc (take at l) (x ∷ y ∷ z ∷ []) (drop (at + 3) l)) }
+-- k whole bytes
+bytes_high : (k v : ℕ) → bytes_of (bits (8 * k) v) ≡ bytes_high_first k v
+unfolding bits
+bytes_high zero v = bytes_of_none
+bytes_high (suc k) v =
+    let e : 8 * suc k ≡ 8 + 8 * k = omega arith in
+    rw e (ap bytes_of (bits_split 8 (8 * k) v) ∙ bytes_of_byte (v / 2 ^ (8 * k)) (bits (8 * k) v) ∙ (rw (bytes_high k v, top k)))
+  where
+    top : (k : ℕ) → v / 2 ^ (8 * k) % 256 ≡ byte_at k v
+    top zero = omega arith
+    top (suc k) = ap (λ (z : ℕ). v / z % 256) (words (suc k))
 
--- ---- the writers
-bytes_nil : (bs : List ℕ) → bytes_of (bs ++ []) ≡ bytes_of bs
-bytes_nil bs = ap bytes_of (append-nil bs)
+pub bytes_of_16 : (v : ℕ) → bytes_of (bits 16 v) ≡ bytes_high_first 2 v
+bytes_of_16 v = bytes_high 2 v
 
-pub two_16 : (v : ℕ) → bytes_of (bits 16 v) ≡ (v / 256 % 256) ∷ (v % 256) ∷ []
-two_16 v = sym (bytes_nil (bits 16 v)) ∙ bytes_16 v [] ∙ (rw bytes_of_none)
+pub bytes_of_32 : (v : ℕ) → bytes_of (bits 32 v) ≡ bytes_high_first 4 v
+bytes_of_32 v = bytes_high 4 v
 
-pub four_32 : (v : ℕ) → bytes_of (bits 32 v) ≡ bytes_of (bits 16 (v / 65536)) ++ bytes_of (bits 16 v)
-four_32 v = sym (bytes_nil (bits 32 v)) ∙ bytes_32 v [] ∙ (rw (bytes_of_none, two_16 (v / 65536), two_16 v))
+-- two entries of 12 bits, and a last one
+pub bytes_of_pair : (x y : ℕ) → x < 4096 → y < 4096 → bytes_of (bits 12 x ++ bits 12 y) ≡ bytes_high_first 3 (bit_or (x * 4096 % 4294967296) y)
+bytes_of_pair x y h k =
+    let e : bit_or (x * 4096 % 4294967296) y ≡ x * 4096 + y = or_after_shift x 4096 4294967296 y refl k (omega arith) in
+    ap bytes_of (sym (bits_join 12 12 x y k)) ∙ bytes_high 3 (x * 4096 + y) ∙ (rw e)
 
-pub three_24 : (x y : ℕ) → x < 4096 → y < 4096 → bytes_of (bits 12 x ++ bits 12 y) ≡ (x / 16) ∷ (x % 16 * 16 + y / 256) ∷ (y % 256) ∷ []
-three_24 x y h k = ap (λ (l : List ℕ). bytes_of (bits 12 x ++ l)) (sym (append-nil (bits 12 y))) ∙ bytes_24 x y [] h k ∙ (rw bytes_of_none)
-
-pub put_16 : (l : List ℕ) (at v : ℕ) → at + 2 ≤ length l → Wrote l at (bytes_of (bits 16 v)) (set (set l at (v / 256 % 256)) (at + 1) (v % 256))
-put_16 l at v h = rw (two_16 v) (wrote_two l at (v / 256 % 256) (v % 256) h)
-
-pub put_32 : (l : List ℕ) (at v : ℕ) (m r : List ℕ) → at + 4 ≤ length l → Wrote l at (bytes_of (bits 16 (v / 65536))) m → Wrote m (at + 2) (bytes_of (bits 16 v)) r → Wrote l at (bytes_of (bits 32 v)) r
-put_32 l at v m r h u w =
-    let e : length (bytes_of (bits 16 (v / 65536))) ≡ 2 = ap length (two_16 (v / 65536)) in
-    rw (four_32 v) (wrote_next l at (bytes_of (bits 16 (v / 65536))) m (at + 2) (bytes_of (bits 16 v)) r (omega arith) (omega arith) u w)
-
-pub put_pair : (l : List ℕ) (at x y : ℕ) → at + 3 ≤ length l → x < 4096 → y < 4096
-    → Wrote l at (bytes_of (bits 12 x ++ bits 12 y)) (set (set (set l at (x / 16)) (at + 1) (x % 16 * 16 + y / 256)) (at + 2) (y % 256))
-put_pair l at x y h a b = rw (three_24 x y a b) (wrote_three l at (x / 16) (x % 16 * 16 + y / 256) (y % 256) h)
-
-pub put_last : (l : List ℕ) (at x : ℕ) → at + 2 ≤ length l → x < 4096 → Wrote l at (bytes_of (bits 12 x)) (set (set l at (x / 16)) (at + 1) (x % 16 * 16))
-put_last l at x h a = rw (bytes_12 x a) (wrote_two l at (x / 16) (x % 16 * 16) h)
+pub bytes_of_last : (v : ℕ) → v < 4096 → bytes_of (bits 12 v) ≡ bytes_high_first 2 (v * 16 % 4294967296)
+bytes_of_last v h =
+    let a : v / 16 ≡ v * 16 % 4294967296 / 256 % 256 = omega arith in
+    let b : v % 16 * 16 ≡ v * 16 % 4294967296 % 256 = omega arith in
+    bytes_12 v h ∙ (rw (a, b))

@@ -1,19 +1,21 @@
 // Fields of bits, read from bytes.
-ghost use Rattle.std.specs.Prelude.{◌≡◌, ℕ, ◌+◌, ◌*◌, ◌%◌, ◌<◌, ◌≤◌, length};
+ghost use Rattle.std.specs.Prelude.{◌≡◌, ℕ, ◌+◌, ◌*◌, ◌%◌, ◌<◌, ◌≤◌, length, take, drop};
 ghost use Rattle.bits.specs.Read.{Reads};
 
-fn wide(x: u8) -> u32
-    ensures { (result ≡ x) × (result < 256) }
+// The N bytes from byte q on.
+fn bytes_at<const N: usize>(s: &[u8], q: usize) -> [u8; N]
+    requires { q + N ≤ length s.now }
+    ensures { result ≡ take N (drop q s.now) }
 {
-    x as u32
+    *s[q..].first_chunk().unwrap()
 }
 
-// The 16 bits at byte q.
-pub fn read16(s: &[u8], q: usize) -> u32
+// The 16 bits at byte q. There is a reader for each width, a line each: std's from_be_bytes is of no trait that one could be generic over.
+pub fn read16(s: &[u8], q: usize) -> u16
     requires { q + 1 < length s.now }
     ensures { Reads s.now (8 * q) 16 result }
 {
-    wide(s[q]) * 256 + wide(s[q + 1])
+    u16::from_be_bytes(bytes_at(s, q))
 }
 
 // The 32 bits at byte q.
@@ -21,7 +23,7 @@ pub fn read32(s: &[u8], q: usize) -> u32
     requires { q + 3 < length s.now }
     ensures { Reads s.now (8 * q) 32 result }
 {
-    read16(s, q) * 65536 + read16(s, q + 2)
+    u32::from_be_bytes(bytes_at(s, q))
 }
 
 // The 64 bits at byte q.
@@ -29,11 +31,12 @@ pub fn read64(s: &[u8], q: usize) -> u64
     requires { q + 7 < length s.now }
     ensures { Reads s.now (8 * q) 64 result }
 {
-    (read32(s, q) as u64) * 4294967296 + (read32(s, q + 4) as u64)
+    u64::from_be_bytes(bytes_at(s, q))
 }
 
 // The 12 bits at bit p, a multiple of 4.
-pub fn read12(s: &[u8], p: usize) -> u32
+#[tactic(auto, using(crate::proofs::ReadLaws::read_12_even, crate::proofs::ReadLaws::read_12_odd))]
+pub fn read12(s: &[u8], p: usize) -> u16
     requires { (p % 4 ≡ 0) × (p + 12 ≤ 8 * length s.now) }
     ensures { Reads s.now p 12 result }
 {

@@ -9,11 +9,11 @@ ghost use Rattle.rules.specs.Queue.{waiting, flags_of};
 ghost use Rattle.rules.specs.Journal.{in_range, entry_at, good_journal};
 ghost use Rattle.rules.specs.Plan.{leg_in};
 ghost use Rattle.rules.specs.Numbers.{agree};
-ghost use Rattle.rules.specs.SharedWords.{Square};
 ghost use Rattle.ring.specs.Legs.{Stops};
 ghost use Rattle.checks.specs.Marks.{Marked};
 
-use legs::wide;
+use journal::kinds::Kind;
+use legs::matrix::Matrix;
 use ring::places::next;
 use ring::times::cost;
 
@@ -24,23 +24,21 @@ pub fn round_good(round: &[u32], places: &[u32]) -> bool
     ensures { result ≡ (is_round_of (length round.now) round.now && same places.now (places_of round.now)) }
 {
     let n = round.len();
-    let mut i: usize = 0;
-    while i < n {
-        let v = wide(round[i]);
+    for i in 0..n {
+        let v = round[i] as usize;
         if n <= v {
             return false;
         }
-        if wide(places[v]) != i {
+        if places[v] as usize != i {
             return false;
         }
-        let p = wide(places[i]);
+        let p = places[i] as usize;
         if n <= p {
             return false;
         }
-        if wide(round[p]) != i {
+        if round[p] as usize != i {
             return false;
         }
-        i = i + 1;
     }
     true
 }
@@ -55,9 +53,8 @@ fn mark_waiting(queue: &[u32], marks: &mut [u8], head: usize, count: usize) -> b
 {
     let n = queue.len();
     let mut at = head;
-    let mut i: usize = 0;
-    while i < count {
-        let v = wide(queue[at]);
+    for _step in 0..count {
+        let v = queue[at] as usize;
         if n <= v {
             return false;
         }
@@ -66,7 +63,6 @@ fn mark_waiting(queue: &[u32], marks: &mut [u8], head: usize, count: usize) -> b
         }
         marks[v] = 1;
         at = next(at, n);
-        i = i + 1;
     }
     true
 }
@@ -86,12 +82,10 @@ fn flags_marked(flags: &[u8], marks: &[u8]) -> bool
     requires { length flags.now ≤ length marks.now }
     ensures { result ≡ same flags.now (take (length flags.now) marks.now) }
 {
-    let mut i: usize = 0;
-    while i < flags.len() {
+    for i in 0..flags.len() {
         if flags[i] != marks[i] {
             return false;
         }
-        i = i + 1;
     }
     true
 }
@@ -109,10 +103,7 @@ fn line_good(queue: &[u32], flags: &[u8], marks: &mut [u8], head: usize, count: 
     if queue.len() < count {
         return false;
     }
-    if mark_waiting(queue, marks, head, count) {
-        return flags_marked(flags, marks);
-    }
-    false
+    mark_waiting(queue, marks, head, count) && flags_marked(flags, marks)
 }
 
 // Queue and flags agree: the stops that wait are below n, each once, and the flags are 1 for exactly those.
@@ -131,24 +122,23 @@ fn entry_good(n: usize, journal: &[u32], i: usize) -> bool
     ensures { result ≡ (leb (at journal.now (5 * i)) 2 && in_range n (entry_at journal.now i)) }
 {
     let p = 5 * i;
-    let kind = journal[p];
-    let start = wide(journal[p + 1]);
-    let a = wide(journal[p + 2]);
+    let start = journal[p + 1] as usize;
+    let a = journal[p + 2] as usize;
     if n <= start {
         return false;
     }
-    if kind == 0 {
-        return a <= n;
+    if 2 < journal[p] {
+        return false;
     }
-    if kind == 1 {
-        let b = wide(journal[p + 3]);
-        let c = wide(journal[p + 4]);
-        return a + b + c <= n;
+    match Kind::of(journal[p]) {
+        Kind::Reversal => a <= n,
+        Kind::Rotation => {
+            let b = journal[p + 3] as usize;
+            let c = journal[p + 4] as usize;
+            a + b + c <= n
+        }
+        Kind::Swap => a < n,
     }
-    if kind == 2 {
-        return a < n;
-    }
-    false
 }
 
 // The entries held have room and are in range for n stops.
@@ -158,11 +148,8 @@ pub fn journal_good(n: usize, journal: &[u32], held: usize) -> bool
     if journal.len() / 5 < held {
         return false;
     }
-    let mut i: usize = 0;
-    while i < held {
-        if entry_good(n, journal, i) {
-            i = i + 1;
-        } else {
+    for i in 0..held {
+        if !entry_good(n, journal, i) {
             return false;
         }
     }
@@ -170,11 +157,10 @@ pub fn journal_good(n: usize, journal: &[u32], held: usize) -> bool
 }
 
 // The carried time is the recount.
-pub fn time_good(matrix: &[u16], round: &[u32], time: u32) -> bool
-    requires square { Square matrix.now (length round.now) }
+pub fn time_good(matrix: &Matrix, round: &[u32], time: u32) -> bool
+    requires size { matrix.now.n ≡ length round.now }
     requires stops { Stops round.now (length round.now) }
-    ensures { result ≡ eqb time (recount (leg_in (length round.now) matrix.now) round.now) }
+    ensures { result ≡ eqb time (recount (leg_in (length round.now) matrix.now.times.now) round.now) }
 {
-    let counted = cost(matrix, round);
-    time == counted
+    time == cost(matrix, round)
 }

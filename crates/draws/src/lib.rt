@@ -23,28 +23,30 @@ pub fn pick(low: u32, high: u32, new: u64) -> u32
     low + (new % span) as u32
 }
 
-// A draw from low to high: the lent state is moved on in place.
-pub fn draw(state: &mut u64, low: u32, high: u32) -> u32
-    requires { low ≤ high }
-    ensures { Drew state.old low high state.new result }
-{
-    let new = step(*state);
-    *state = new;
-    pick(low, high, new)
-}
-
 // The source of the draws: its state.
 #[derive(Clone, Copy)]
 pub struct Draws {
     pub state: u64,
 }
 
-// A draw from low to high: the lent source is moved on in place.
-pub fn draw_from(source: &mut Draws, low: u32, high: u32) -> u32
+impl Draws {
+    // A draw from low to high: the lent source is moved on in place.
+    pub fn draw(&mut self, low: u32, high: u32) -> u32
+        requires { low ≤ high }
+        ensures { Drew self.old.state low high self.new.state result }
+    {
+        self.state = step(self.state);
+        pick(low, high, self.state)
+    }
+}
+
+// A draw from low to high, from a state that is lent alone: it is moved on in place.
+pub fn draw(state: &mut u64, low: u32, high: u32) -> u32
     requires { low ≤ high }
-    ensures { Drew source.old.state low high source.new.state result }
+    ensures { Drew state.old low high state.new result }
 {
-    let new = step(source.state);
-    source.state = new;
-    pick(low, high, new)
+    let mut source = Draws { state: *state };
+    let drawn = source.draw(low, high);
+    *state = source.state;
+    drawn
 }

@@ -3,6 +3,7 @@ use Prim.Native.Nat.{ℕ, suc, ◌+◌, ◌-◌, ◌*◌, ◌^◌, ◌≤◌, �
 use mathlib.Core.Path.{◌≡◌, sym, ap, ◌∙◌}
 use mathlib.Core.List.{List, [], ◌∷◌, ◌++◌, append_assoc, append-nil}
 use native.Mathlib.Numerals.{add-one}
+use native.Mathlib.Decide.{ℕ_discrete}
 use native.Mathlib.Omega.{arith}
 use lib.ListN.{length, set, take, length-set}
 use lib.Pow.{pow_pos}
@@ -79,11 +80,17 @@ module _ {matrix : List Time} {n : ℕ} {round : Round} {left : ℕ} {last : Sto
           adds = omega (arith, is, g.adds, ap (homeward (leg_in n matrix) last) on, homeward_on (leg_in n matrix) last k p);
         }
 
-  pub going_done : left ≡ 0 → (total : Time) → total ≡ time + leg_in n matrix last 0 → Walked matrix n round total
+  -- while the round is not full a stop is left
+  pub going_some : i < n → 0 < left
+  going_some l = elim (ℕ_discrete left 0) [
+    | yes z ↦ absurd (omega (arith, g.count, ap length (ap (members (n - 1)) z ∙ members_none (n - 1))))
+    | no z ↦ omega arith
+  ]
+
+  pub going_done : n ≤ i → (total : Time) → total ≡ time + leg_in n matrix last 0 → Walked matrix n round total
   unfolding way_on
   going_done z total e =
-      let none : members (n - 1) left ≡ [] = ap (members (n - 1)) z ∙ members_none (n - 1) in
-      let all : i ≡ n = omega (arith, g.count, ap length none) in
+      let all : i ≡ n = omega (arith, g.count) in
       let end : n - i ≡ 0 = omega arith in
       let over : way_on (leg_in n matrix) (n - i) last (members (n - 1) left) ≡ [] = ap (λ x. way_on (leg_in n matrix) x last (members (n - 1) left)) end in
       record {

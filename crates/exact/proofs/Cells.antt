@@ -1,10 +1,8 @@
 -- A word of the table where it is read, and the scan of a set for the cheapest walk through it.
-use Prim.Native.Nat.{ℕ, ◌+◌, ◌-◌, ◌*◌, ◌^◌, ◌≤◌, ◌<◌, min}
+use Prim.Native.Nat.{ℕ, ◌+◌, ◌-◌, ◌*◌, ◌%◌, ◌^◌, ◌≤◌, ◌<◌, min}
 use mathlib.Core.Path.{◌≡◌, refl, sym, ap, ◌∙◌}
 use mathlib.Core.List.{List, ◌∷◌}
-use native.Mathlib.Nat.{mul-le-mul}
 use native.Mathlib.Omega.{arith}
-use lib.Arith.{digits_lt}
 use lib.ListN.{length}
 use lib.Count.{count_trailing_zeros}
 use lib.Pow.{pow_mono, pow_pos}
@@ -26,31 +24,23 @@ square z = record { few = omega (arith, z.high); cells = z.square }
 pub sets_few : (n : ℕ) → n ≤ 25 → 2 ^ (n - 1) ≤ 16777216
 sets_few n h = let z : n - 1 ≤ 24 = omega arith in pow_mono z
 
-pub words_fewer : {matrix : List Time} {n : ℕ} {table : List Time} {s : ℕ} (p : ℕ) → p ≤ s → Words matrix n table s → Words matrix n table p
-words_fewer p h w = record { word = λ q k l. w.word q k (omega arith) }
+module _ {matrix : List Time} {n : ℕ} {table : List Time} {sets : ℕ} (words : Words matrix n table sets) {set : ℕ} (b : set < sets) {j : Stop} (low : 1 ≤ j) (high : j < n) where
+  cell_is : at table (set * (n - 1) + (j - 1)) ≡ table_word (leg_in n matrix) (n - 1) set j
+  cell_is = words.word set j b low high
 
-module _ {matrix : List Time} {n : ℕ} {table : List Time} (z : Sized n matrix table) (set : ℕ) (b : set < 2 ^ (n - 1)) where
-  pub row_few : set * (n - 1) ≤ 402653184
-  row_few =
-      let k : n - 1 ≤ 24 = omega (arith, z.high) in
-      let l : set ≤ 16777216 = omega (arith, sets_few n z.high) in
-      mul-le-mul l k
+  pub cell_small : at table (set * (n - 1) + (j - 1)) ≤ 2147483647
+  unfolding unreached
+  cell_small = rw cell_is (word_small (leg_in n matrix) (n - 1) set j)
 
-  module _ (words : Words matrix n table (set + 1)) (j : Stop) (low : 1 ≤ j) (high : j < n) (w : ℕ) (e : w ≡ j) where
-    pub cell_within : set * (n - 1) + (w - 1) < length table
-    cell_within =
-        let k : w - 1 < n - 1 = omega arith in
-        omega (arith, z.room, digits_lt b k)
+  pub via_is : {a : Stop} {leg : Time} → leg ≡ leg_in n matrix a j → leg ≤ 65535 → Via matrix n set a j (leg + at table (set * (n - 1) + (j - 1)))
+  via_is is small = record { is = cc (is, cell_is); small = omega (arith, cell_small) }
 
-    cell_is : at table (set * (n - 1) + (w - 1)) ≡ table_word (leg_in n matrix) (n - 1) set j
-    cell_is = ap (λ x. at table (set * (n - 1) + (x - 1))) e ∙ words.word set j (omega arith) low high
+-- the machine's shift
+pub shifted : (n : ℕ) → n ≤ 25 → 1 * 2 ^ (n - 1) % 18446744073709551616 ≡ 2 ^ (n - 1)
+shifted n h = omega (arith, sets_few n h)
 
-    pub cell_small : at table (set * (n - 1) + (w - 1)) ≤ 2147483647
-    unfolding unreached
-    cell_small = rw cell_is (word_small (leg_in n matrix) (n - 1) set j)
-
-    pub via_is : (a : Stop) (leg : Time) → leg ≡ leg_in n matrix a j → leg ≤ 65535 → Via matrix n set a j (leg + at table (set * (n - 1) + (w - 1)))
-    via_is a leg is small = record { is = cc (is, cell_is); small = omega (arith, cell_small) }
+pub shifted_rows : (n : ℕ) → n ≤ 25 → 1 * 2 ^ (n - 1) % 18446744073709551616 * (n - 1) ≡ 2 ^ (n - 1) * (n - 1)
+shifted_rows n h = ap (λ x. x * (n - 1)) (shifted n h)
 
 -- ---- the scan of a set, lowest stop first
 module _ (m : ℕ) {s : ℕ} {k : Stop} (b : s < 2 ^ m) (l : Lowest s k) where
@@ -62,6 +52,10 @@ module _ (m : ℕ) {s : ℕ} {k : Stop} (b : s < 2 ^ m) (l : Lowest s k) where
 
   pub rest_less : {r : ℕ} → Rest s r → r < s
   rest_less h = omega (arith, h.is k l, member_fits s k l.there, pow_pos (k - 1))
+
+-- a stop of a set is one of the n
+pub stop_in : {n s : ℕ} {k : Stop} → 2 ≤ n → s < 2 ^ (n - 1) → Lowest s k → (1 ≤ k) × (k < n)
+stop_in {n} two b l = (l.low, omega (arith, lowest_below (n - 1) b l))
 
 -- a set that is not empty has a stop
 pub members_some : (m s : ℕ) → m ≤ 24 → s < 2 ^ m → 0 < s → 0 < length (members m s)

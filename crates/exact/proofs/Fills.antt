@@ -1,14 +1,13 @@
 -- Rows written where they begin, and the table after one more of them.
 use Prim.Native.Nat.{ℕ, ◌+◌, ◌-◌, ◌*◌, ◌^◌, ◌≤◌, ◌<◌}
-use mathlib.Core.Path.{◌≡◌, refl, sym, ap, subst, ◌∙◌}
-use mathlib.Core.Logic.{◌≢◌}
+use mathlib.Core.Path.{◌≡◌, sym, ap, subst, ◌∙◌}
 use mathlib.Core.List.{List}
 use native.Mathlib.Decide.{dec_lt}
 use native.Mathlib.Nat.{mul-le-mul_right}
 use native.Mathlib.Omega.{arith}
 use lib.Arith.{digits_lt}
-use lib.ListN.{length, set, take, drop, length-set, length-append, length-take, length-drop, get_or-append, get_or-eq_default}
-use lib.Seq.{get_or-set_same, get_or-set_other, get_or-take, get_or-drop, get_or-append-add, length-take-le}
+use lib.ListN.{length, take, drop, length-append, length-take, length-drop, get_or-append, get_or-eq_default}
+use lib.Seq.{get_or-take, get_or-drop, get_or-append-add, length-take-le}
 use borrow.Rule.Slice.PartMut.{put_mid}
 use Rattle.rules.specs.Words.{Stop, Time}
 use Rattle.rules.specs.Lists.{at}
@@ -18,23 +17,9 @@ use Rattle.rules.specs.Calls.{table_left}
 use Rattle.laws.proofs.TableLaws.{table_is}
 use Rattle.exact.specs.Inner.{Sized, Words, Row, Put}
 
--- ---- a row, word by word
-pub put_starts : (part row : List Time) → Put part row 0 part
-put_starts part row = record { long = refl; front = λ i h. absurd (omega arith); back = λ i h. refl }
-
-pub put_next : {part row : List Time} {j : ℕ} {out : List Time} → j < length part → Put part row j out → (v : Time) → v ≡ at row j → Put part row (j + 1) (set out j v)
-put_next {part} {row} {j} {out} l h v e =
-    record {
-      long = length-set out j v ∙ h.long;
-      front = λ i b. go i b (dec_lt i j);
-      back = λ i b. let d : i ≢ j = omega arith in get_or-set_other out j i v 0 d ∙ h.back i (omega arith);
-    }
-  where
-    go : (i : ℕ) → i < j + 1 → Dec (i < j) → at (set out j v) i ≡ at row i
-    go i b (yes a) = let d : i ≢ j = omega arith in get_or-set_other out j i v 0 d ∙ h.front i a
-    go i b (no a) =
-        let q : i ≡ j = omega arith in
-        ap (at (set out j v)) q ∙ get_or-set_same out j v 0 (omega (arith, h.long)) ∙ e ∙ ap (at row) (sym q)
+-- ---- the words of a row that are written
+pub row_cut : {matrix : List Time} {n s : ℕ} {row : List Time} → Row matrix n s row → Row matrix n s (take (n - 1) row)
+row_cut {n = n} {row = row} o = record { word = λ k low high. get_or-take (n - 1) row (k - 1) 0 (omega arith) ∙ o.word k low high }
 
 -- ---- the table with its part from a on replaced by ys
 module _ (t ys : List Time) (a : ℕ) (h : a ≤ length t) (e : length ys ≡ length t - a) where
@@ -73,9 +58,6 @@ pub record Filling (matrix : List Time) (n : ℕ) (table₀ table : List Time) (
   pub beyond : (i : ℕ) → s * (n - 1) ≤ i → at table i ≡ at table₀ i
 
 module _ {matrix : List Time} {n : ℕ} {table₀ : List Time} (z : Sized n matrix table₀) where
-  pub fill_starts : Filling matrix n table₀ table₀ 0
-  fill_starts = record { few = omega arith; long = refl; words = record { word = λ p k l. absurd (omega arith) }; beyond = λ i l. refl }
-
   pub fill_done : {table : List Time} {s : ℕ} → Filling matrix n table₀ table s → s ≡ 2 ^ (n - 1) → table ≡ table_left n matrix table₀
   unfolding table_left
   fill_done {table} f e =
@@ -84,16 +66,13 @@ module _ {matrix : List Time} {n : ℕ} {table₀ : List Time} (z : Sized n matr
       (λ i l. f.beyond i (omega (arith, ap (λ x. x * (n - 1)) e)))
 
   module _ {t : List Time} {s : ℕ} (f : Filling matrix n table₀ t s) (b : s < 2 ^ (n - 1)) where
-    -- the table is as large as it was, and the row ends within it
-    pub still_sized : Sized n matrix t
-    still_sized = record { low = z.low; high = z.high; square = z.square; room = omega (arith, f.long, z.room) }
-
+    -- the row ends within the table
     pub row_fits : s * (n - 1) + (n - 1) ≤ length t
     row_fits = omega (arith, mul-le-mul_right (n - 1) b, f.long, z.room)
 
-    pub fill_next : {row ys : List Time} → Row matrix n s row → Put (take (length t - s * (n - 1)) (drop (s * (n - 1)) t)) row (n - 1) ys
+    pub fill_next : {row ys : List Time} → length row ≡ n - 1 → Row matrix n s row → Put (take (length t - s * (n - 1)) (drop (s * (n - 1)) t)) row ys
         → Filling matrix n table₀ (put_mid (s * (n - 1)) (length t - s * (n - 1)) t ys) (s + 1)
-    fill_next {row} {ys} o p =
+    fill_next {row} {ys} c o p =
         record {
           few = omega arith;
           long = whole_length t ys a at_most same_long ∙ f.long;

@@ -1,22 +1,18 @@
--- The answer's number.
+-- The number that is given.
 use Prim.Native.Nat.{ℕ, ◌-◌, ◌*◌, ◌^◌, ◌≤◌, ◌<◌}
-use mathlib.Core.Path.{◌≡◌, refl, sym, ap, ◌∙◌}
+use mathlib.Core.Path.{◌≡◌, refl, sym, ◌∙◌}
 use mathlib.Core.Bool.{Bool, true, false, ◌&&◌}
 use mathlib.Core.List.{List}
-use native.Mathlib.Nat.{mul-le-mul}
+use mathlib.Core.Logic.{◌≢◌, ◌⊎◌, inl, inr}
 use native.Mathlib.Omega.{arith}
 use lib.Dec.{leb, eqb}
 use lib.ListN.{length}
-use lib.Pow.{pow_mono}
-use borrow.Author.Tests.{le-leb, lt-leb, leb-true, eqb-true}
+use borrow.Author.Tests.{le-leb, lt-leb, leb-true, eq-eqb, ne_eqb, eqb-true}
 use Rattle.rules.specs.Words.{Time, Round}
 use Rattle.rules.specs.Lists.{when◌then◌else◌}
 use Rattle.rules.specs.Numbers.{verdict, within, exact_number}
 use Rattle.laws.proofs.ChoiceLaws.{and-true}
-use Rattle.exact.specs.Inner.{Number, Ready}
-
-pub words_few : (n : ℕ) → n ≤ 25 → (n * n ≤ 625) × (2 ^ (n - 1) * (n - 1) ≤ 402653184)
-words_few n h = let z : n - 1 ≤ 24 = omega arith in (mul-le-mul h h, mul-le-mul (pow_mono z) z)
+use Rattle.exact.specs.Inner.{Ready}
 
 -- the three checks
 checks : Bool → Bool → Bool → ℕ
@@ -27,11 +23,6 @@ is_checks : (n : ℕ) (matrix : List Time) (round : Round) (table : List Time)
 unfolding checks exact_number verdict within
 is_checks n matrix round table = refl
 
-first_of : (b c : Bool) (lengths room : ℕ) → lengths ≡ (when b then 0 else 3) → room ≡ (when c then 0 else 4) → (when eqb lengths 0 then room else lengths) ≡ checks true b c
-unfolding checks
-first_of true c lengths room e f = rw e f
-first_of false c lengths room e f = rw e refl
-
 none_fails : (a b c : Bool) → checks a b c ≡ 0 → (a ≡ true) × (b ≡ true) × (c ≡ true)
 unfolding checks
 none_fails true true true e = (refl, refl, refl)
@@ -39,36 +30,33 @@ none_fails true true false e = absurd (omega arith)
 none_fails true false c e = absurd (omega arith)
 none_fails false b c e = absurd (omega arith)
 
-module _ (n cells stops words : ℕ) where
-  outside : (leb 1 n && leb n 25) ≡ false → Number n cells stops words 1
+-- the number of the first check that fails
+module _ (n : ℕ) (matrix : List Time) (round : Round) (table : List Time) where
+  pub outside : (n < 1) ⊎ ((1 ≤ n) × (25 < n)) → exact_number n matrix round table ≡ 1
   unfolding checks
-  outside h =
-      record {
-        says = λ matrix round table c s w. sym (is_checks n matrix round table
-            ∙ ap (λ (a : Bool). checks a (eqb (length matrix) (n * n) && eqb (length round) n) (leb (2 ^ (n - 1) * (n - 1)) (length table))) h);
-      }
+  outside (inl h) = is_checks n matrix round table ∙ rw (lt-leb 1 n h)
+  outside (inr h) = is_checks n matrix round table ∙ rw (le-leb 1 n h.0, lt-leb n 25 h.1)
 
-  pub too_few : n < 1 → Number n cells stops words 1
-  too_few h = outside (rw (lt-leb 1 n h))
+  module _ (low : 1 ≤ n) (high : n ≤ 25) where
+    pub odd : (length matrix ≢ n * n) ⊎ ((length matrix ≡ n * n) × (length round ≢ n)) → exact_number n matrix round table ≡ 3
+    unfolding checks
+    odd (inl h) = is_checks n matrix round table ∙ rw (le-leb 1 n low, le-leb n 25 high, ne_eqb (length matrix) (n * n) h)
+    odd (inr h) =
+        is_checks n matrix round table
+        ∙ rw (le-leb 1 n low, le-leb n 25 high, eq-eqb (length matrix) (n * n) h.0, ne_eqb (length round) n h.1)
 
-  pub too_many : 25 < n → Number n cells stops words 1
-  too_many h = outside (rw (le-leb 1 n (omega arith), lt-leb n 25 h))
+    module _ (cells : length matrix ≡ n * n) (stops : length round ≡ n) where
+      pub small : length table < 2 ^ (n - 1) * (n - 1) → exact_number n matrix round table ≡ 4
+      unfolding checks
+      small h =
+          is_checks n matrix round table
+          ∙ rw (le-leb 1 n low, le-leb n 25 high, eq-eqb (length matrix) (n * n) cells, eq-eqb (length round) n stops, lt-leb (2 ^ (n - 1) * (n - 1)) (length table) h)
 
-  pub in_range : 1 ≤ n → n ≤ 25 → (lengths : ℕ) → lengths ≡ (when eqb cells (n * n) && eqb stops n then 0 else 3)
-      → (room : ℕ) → room ≡ (when leb (2 ^ (n - 1) * (n - 1)) words then 0 else 4)
-      → (r : ℕ) → r ≡ (when eqb lengths 0 then room else lengths) → Number n cells stops words r
-  in_range low high lengths e room f r g =
-      record {
-        says = λ matrix round table c s w.
-            g ∙ first_of (eqb cells (n * n) && eqb stops n) (leb (2 ^ (n - 1) * (n - 1)) words) lengths room e f
-            ∙ sym (is_checks n matrix round table ∙ ap (λ (a : Bool). checks a (eqb (length matrix) (n * n) && eqb (length round) n) (leb (2 ^ (n - 1) * (n - 1)) (length table))) within_range
-            ∙ ap (λ x. checks true (eqb x (n * n) && eqb (length round) n) (leb (2 ^ (n - 1) * (n - 1)) (length table))) c
-            ∙ ap (λ x. checks true (eqb cells (n * n) && eqb x n) (leb (2 ^ (n - 1) * (n - 1)) (length table))) s
-            ∙ ap (λ x. checks true (eqb cells (n * n) && eqb stops n) (leb (2 ^ (n - 1) * (n - 1)) x)) w);
-      }
-    where
-      within_range : (leb 1 n && leb n 25) ≡ true
-      within_range = rw (le-leb 1 n low, le-leb n 25 high)
+      pub all_fit : 2 ^ (n - 1) * (n - 1) ≤ length table → exact_number n matrix round table ≡ 0
+      unfolding checks
+      all_fit h =
+          is_checks n matrix round table
+          ∙ rw (le-leb 1 n low, le-leb n 25 high, eq-eqb (length matrix) (n * n) cells, eq-eqb (length round) n stops, le-leb (2 ^ (n - 1) * (n - 1)) (length table) h)
 
 -- nothing is refused: the sizes are as they should be
 pub ready : (n : ℕ) (matrix : List Time) (round : Round) (table : List Time) → exact_number n matrix round table ≡ 0 → Ready n matrix round table

@@ -39,18 +39,15 @@ rowing_starts matrix n s few b blank e =
     }
 
 module _ {matrix : List Time} {n s : ℕ} {row : List Time} {left : ℕ} (h : Rowing matrix n s row left) {k : Stop} (l : Lowest left k) {later : ℕ} (t : Rest left later) where
-  bit : left - later ≡ 2 ^ (k - 1)
-  bit = omega (arith, t.is k l, member_fits left k l.there)
-
   -- the other stops of s are a smaller set
-  pub others_less : (s - (left - later) < s) × (left - later ≤ s)
-  others_less = omega (arith, bit, pow_pos (k - 1), member_fits s k (h.inside k l.there))
+  pub others_less : (s - 2 ^ (k - 1) < s) × (2 ^ (k - 1) ≤ s)
+  others_less = omega (arith, pow_pos (k - 1), member_fits s k (h.inside k l.there))
 
-  pub rowing_next : n ≤ 25 → k < n → (w : ℕ) → w ≡ k → (v : Time) → v ≡ onward (leg_in n matrix) k (members (n - 1) (s - (left - later))) → Rowing matrix n s (set row (w - 1) v) later
-  rowing_next few below w e v o =
+  pub rowing_next : n ≤ 25 → {v : Time} → v ≡ onward (leg_in n matrix) k (members (n - 1) (s - 2 ^ (k - 1))) → Rowing matrix n s (set row (k - 1) v) later
+  rowing_next few {v} o =
       record {
         within = omega (arith, h.within, rest_less (n - 1) h.within l t);
-        long = length-set row (w - 1) v ∙ h.long;
+        long = length-set row (k - 1) v ∙ h.long;
         inside = λ j z. h.inside j (stays j z);
         words = λ j low high. elim (ℕ_discrete k j) [ yes q ↦ new j q | no ne ↦ old j low high ne ];
       }
@@ -70,21 +67,20 @@ module _ {matrix : List Time} {n s : ℕ} {row : List Time} {left : ℕ} (h : Ro
 
       is_word : v ≡ table_word (leg_in n matrix) (n - 1) s k
       is_word =
-          o ∙ ap (λ x. onward (leg_in n matrix) k (members (n - 1) (s - x))) bit
-          ∙ ap (onward (leg_in n matrix) k) (members_less s (n - 1) k (h.inside k l.there))
+          o ∙ ap (onward (leg_in n matrix) k) (members_less s (n - 1) k (h.inside k l.there))
           ∙ sym (word_in (leg_in n matrix) (n - 1) s k (h.inside k l.there))
 
-      new : (j : Stop) → k ≡ j → at (set row (w - 1) v) (j - 1) ≡ (when member later j then unreached else table_word (leg_in n matrix) (n - 1) s j)
+      new : (j : Stop) → k ≡ j → at (set row (k - 1) v) (j - 1) ≡ (when member later j then unreached else table_word (leg_in n matrix) (n - 1) s j)
       new j q =
-          let p : j - 1 ≡ w - 1 = omega arith in
-          ap (at (set row (w - 1) v)) p ∙ get_or-set_same row (w - 1) v 0 (omega (arith, h.long, l.low)) ∙ is_word
+          let p : j - 1 ≡ k - 1 = omega arith in
+          ap (at (set row (k - 1) v)) p ∙ get_or-set_same row (k - 1) v 0 (omega (arith, h.long, l.low)) ∙ is_word
           ∙ ap (table_word (leg_in n matrix) (n - 1) s) q
           ∙ ap (λ (b : Bool). when b then unreached else table_word (leg_in n matrix) (n - 1) s j) (sym (ap (member later) (sym q) ∙ gone))
 
-      old : (j : Stop) → 1 ≤ j → j < n → k ≢ j → at (set row (w - 1) v) (j - 1) ≡ (when member later j then unreached else table_word (leg_in n matrix) (n - 1) s j)
+      old : (j : Stop) → 1 ≤ j → j < n → k ≢ j → at (set row (k - 1) v) (j - 1) ≡ (when member later j then unreached else table_word (leg_in n matrix) (n - 1) s j)
       old j low high ne =
-          let d : j - 1 ≢ w - 1 = omega (arith, l.low) in
-          get_or-set_other row (w - 1) (j - 1) v 0 d ∙ h.words j low high
+          let d : j - 1 ≢ k - 1 = omega (arith, l.low) in
+          get_or-set_other row (k - 1) (j - 1) v 0 d ∙ h.words j low high
           ∙ ap (λ (b : Bool). when b then unreached else table_word (leg_in n matrix) (n - 1) s j) (sym (other j ne))
 
 pub rowing_done : {matrix : List Time} {n s : ℕ} {row : List Time} {left : ℕ} → Rowing matrix n s row left → left ≡ 0 → Row matrix n s row

@@ -1,12 +1,12 @@
 -- What the solver's functions ask of each other. Assumes nothing.
-use Rattle.std.specs.Prelude.{ℕ, suc, ◌+◌, ◌-◌, ◌*◌, ◌^◌, ◌≤◌, ◌<◌, ◌≡◌, true, false, List, ◌∷◌, length}
+use Rattle.std.specs.Prelude.{ℕ, suc, ◌+◌, ◌-◌, ◌*◌, ◌^◌, ◌≤◌, ◌<◌, ◌≡◌, true, false, List, ◌∷◌, length, Option, Some, None}
 use Rattle.rules.specs.Words.{Stop, Time, Round}
 use Rattle.rules.specs.Lists.{at, rising}
 use Rattle.rules.specs.Plan.{leg_in}
 use Rattle.rules.specs.Table.{member, members, table_word}
-use Rattle.rules.specs.Numbers.{exact_number}
 use Rattle.laws.proofs.ExactLaws.{homeward}
 use Rattle.laws.proofs.OnwardLaws.{way_on}
+use Rattle.legs.specs.declared.Stop as legs
 
 pub record Sized (n : ℕ) (matrix table : List Time) : Type 0 where
   pub low : 2 ≤ n
@@ -29,6 +29,11 @@ pub record Lowest (s : ℕ) (k : Stop) : Type 0 where
 pub record Rest (s r : ℕ) : Type 0 where
   pub is : (k : Stop) → Lowest s k → r ≡ s - 2 ^ (k - 1)
 
+-- the stops of the set s give their lowest, and r is left; none is given where the set is empty
+abbrev pub Next : ℕ → Option legs.Stop → ℕ → Type 0
+Next s None r = s ≡ 0
+Next s (Some k) r = Lowest s k.0 × Rest s r
+
 -- on from a to j of the set s, and through the others of s and home
 pub record Via (matrix : List Time) (n s : ℕ) (a j : Stop) (r : Time) : Type 0 where
   pub is : r ≡ leg_in n matrix a j + table_word (leg_in n matrix) (n - 1) s j
@@ -38,11 +43,11 @@ pub record Via (matrix : List Time) (n s : ℕ) (a j : Stop) (r : Time) : Type 0
 pub record Row (matrix : List Time) (n s : ℕ) (row : List Time) : Type 0 where
   pub word : (k : Stop) → 1 ≤ k → k < n → at row (k - 1) ≡ table_word (leg_in n matrix) (n - 1) s k
 
--- out is part with the first m words of row at its front
-pub record Put (part row : List Time) (m : ℕ) (out : List Time) : Type 0 where
+-- out is part with row at its front
+pub record Put (part row out : List Time) : Type 0 where
   pub long : length out ≡ length part
-  pub front : (i : ℕ) → i < m → at out i ≡ at row i
-  pub back : (i : ℕ) → m ≤ i → at out i ≡ at part i
+  pub front : (i : ℕ) → i < length row → at out i ≡ at row i
+  pub back : (i : ℕ) → length row ≤ i → at out i ≡ at part i
 
 -- stop k is where the walk goes on from stop a with the set s left
 pub record Choice (matrix : List Time) (n s : ℕ) (a k : Stop) : Type 0 where
@@ -63,7 +68,3 @@ pub record Ready (n : ℕ) (matrix : List Time) (round : Round) (table : List Ti
   pub square : length matrix ≡ n * n
   pub long : length round ≡ n
   pub room : 2 ^ (n - 1) * (n - 1) ≤ length table
-
--- r is the number for lists of these lengths
-pub record Number (n cells stops words r : ℕ) : Type 0 where
-  pub says : (matrix : List Time) (round : Round) (table : List Time) → length matrix ≡ cells → length round ≡ stops → length table ≡ words → r ≡ exact_number n matrix round table

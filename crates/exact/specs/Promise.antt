@@ -1,11 +1,17 @@
 -- 01, 13: what the exact solver promises. Assumes nothing.
-use Rattle.std.specs.Prelude.{ℕ, ◌≡◌, List}
+use Rattle.std.specs.Prelude.{ℕ, ◌≡◌, List, Result, Ok, Err}
 use Rattle.rules.specs.Words.{Time, Round}
 use Rattle.rules.specs.Ring.{recount}
 use Rattle.rules.specs.Plan.{leg_in}
 use Rattle.rules.specs.Exact.{Exact}
 use Rattle.rules.specs.Numbers.{exact_number}
 use Rattle.rules.specs.Calls.{table_left}
+use Rattle.numbers.specs.declared.Refusal.{Refusal}
+
+-- the time in an answer: 0 where it is refused
+abbrev pub time_in : Result ℕ Refusal → ℕ
+time_in (Ok time) = time
+time_in (Err refusal) = 0
 
 -- "Every refusal .. changes nothing lent", and gives 0 in every other result
 pub record Refused (table table' : List Time) (round round' : Round) (time : Time) : Type 0 where

@@ -1,4 +1,4 @@
--- 01, 7: `improve` is the move that the scans choose, carried out.
+-- `improve` is the move that the scans choose, carried out.
 use Prim.Native.Nat.{ℕ, zero, suc, ◌-◌, ◌≤◌, ◌<◌}
 use mathlib.Core.Path.{◌≡◌, refl, sym, ap, ◌∙◌}
 use mathlib.Core.Bool.{Bool, true, false}
@@ -6,7 +6,6 @@ use mathlib.Core.List.{List, [], ◌∷◌, ◌++◌}
 use native.Mathlib.Omega.{arith}
 use borrow.Author.Tests.{ltb-true}
 use lib.Dec.{ltb}
-use lib.ListN.{length}
 use Rattle.rules.specs.Words.{Stop, Time, Legs}
 use Rattle.rules.specs.Ring.{ahead}
 use Rattle.rules.specs.Journal.{Track}
@@ -70,18 +69,18 @@ unfolding touching
 touch vs zero t us h = absurd (omega arith)
 touch vs (suc g) t us h = refl
 
-module _ (matrix : List Time) (k : ℕ) (near : List Stop) (fwd : Bool) (t1 : Stop) (t : Track) (c : ℕ) (g : Time) (t3 t4 t5 t6 : Stop) (is : pick c g t3 t4 t5 t6 ≡ found_in (length t.round) matrix k near fwd t.round t1) where
+module _ (n : ℕ) (matrix : List Time) (k : ℕ) (near : List Stop) (fwd : Bool) (t1 : Stop) (t : Track) (c : ℕ) (g : Time) (t3 t4 t5 t6 : Stop) (is : pick c g t3 t4 t5 t6 ≡ found_in n matrix k near fwd t.round t1) where
   -- nothing closes with a gain
-  pub improve_none : g ≤ 0 → improve (near_plan (length t.round) matrix k near) fwd t1 t ≡ nothing t
+  pub improve_none : g ≤ 0 → improve (near_plan n matrix k near) fwd t1 t ≡ nothing t
   unfolding improve near_plan leg_of near_of found_in touching nothing
-  improve_none h = rw (closing_none (leg_in (length t.round) matrix) fwd t1 (ahead fwd t.round t1) t _ c g t3 t4 t5 t6 is h)
+  improve_none h = rw (closing_none (leg_in n matrix) fwd t1 (ahead fwd t.round t1) t _ c g t3 t4 t5 t6 is h)
 
   -- the first that does
   pub improve_some : (t2 : Stop) → t2 ≡ ahead fwd t.round t1 → 0 < g
-      → improve (near_plan (length t.round) matrix k near) fwd t1 t ≡ record { gain = g; track = seq3 fwd (case_of c) t1 t2 t3 t4 t5 t6 t; touched = t1 ∷ t2 ∷ ends_of (trial_of c t3 t4 t5 t6) }
+      → improve (near_plan n matrix k near) fwd t1 t ≡ record { gain = g; track = seq3 fwd (case_of c) t1 t2 t3 t4 t5 t6 t; touched = t1 ∷ t2 ∷ ends_of (trial_of c t3 t4 t5 t6) }
   unfolding improve near_plan leg_of near_of found_in carried
   improve_some t2 e h =
-      rw (e, closing_some (leg_in (length t.round) matrix) fwd t1 (ahead fwd t.round t1) t _ c g t3 t4 t5 t6 is h) (touch (t1 ∷ ahead fwd t.round t1 ∷ []) g _ _ h)
+      rw (e, closing_some (leg_in n matrix) fwd t1 (ahead fwd t.round t1) t _ c g t3 t4 t5 t6 is h) (touch (t1 ∷ ahead fwd t.round t1 ∷ []) g _ _ h)
 
 module _ (n : ℕ) (matrix : List Time) (k : ℕ) (near : List Stop) (ka : ℕ) (alpha : List Stop) (t1 : Stop) (t : Track) where
   -- it reads no alpha list

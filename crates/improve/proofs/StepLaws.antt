@@ -1,5 +1,5 @@
 -- A step's promise from those of its parts.
-use Prim.Native.Nat.{ℕ, zero, suc, ◌≤◌, ◌<◌}
+use Prim.Native.Nat.{ℕ, zero, suc, ◌+◌, ◌*◌, ◌≤◌, ◌<◌}
 use mathlib.Core.Path.{◌≡◌, refl, sym, ap, subst, ◌∙◌}
 use mathlib.Core.Logic.{◌≢◌}
 use mathlib.Core.Bool.{true}
@@ -10,15 +10,13 @@ use Rattle.rules.specs.Words.{Stop, Place, Time, Round}
 use Rattle.rules.specs.Journal.{Track, track_of, good_journal}
 use Rattle.rules.specs.Queue.{push_all, waiting}
 use Rattle.rules.specs.Improve.{ends_of, Found, nothing, or_else}
-use Rattle.rules.specs.SharedWords.{Tied, Square, Listed}
+use Rattle.rules.specs.SharedWords.{Tied}
 use Rattle.laws.proofs.ChoiceLaws.{by_gain}
 use Rattle.laws.proofs.JournalLaws.{entries_of_length}
 use Rattle.laws.proofs.StayLaws.{Stays}
 use Rattle.queue.specs.Lines.{InLine, Waits}
-use Rattle.journal.specs.Journalled.{Journalled}
 use Rattle.journal.proofs.GrewLaws.{grew_self, grew_grew}
 use Rattle.moves.specs.Moves.{Made, case_of}
-use Rattle.scans.specs.Scans.{Ready}
 use Rattle.improve.specs.Steps.{trial_of, Stepped}
 
 -- ---- the queue
@@ -100,13 +98,9 @@ module _ {a : ℕ} {f : Found} {queue : List ℕ} {head : Place} {count : ℕ} {
   unfolding nothing push_all
   same_waiting = s.waits.is ∙ ap (λ (g : Found). push_all (waiting queue head count) g.touched) is_nothing
 
-  pub still_journalled : (free : ℕ) → length j' ≡ length j → Journalled (length r) j held free → Journalled (length r') j' held' free
-  still_journalled free e h = record { good = s.made.good; room = omega (arith, h.room, e, same_held) }
-
-  pub still_ready : {matrix : List Time} {near : List Stop} {k : ℕ} {ps : List Place} → Ready matrix near k r ps → Ready matrix near k r' ps'
-  still_ready {matrix} {near} {k} h =
-      let e : length r ≡ length r' = ap length (sym same_round) in
-      record { tied = s.made.tied; square = subst (Square matrix) e h.square; lists = subst (Listed near k) e h.lists }
+  -- and there is as much room
+  pub still_room : (free : ℕ) → length j' ≡ length j → 5 * (held + free) ≤ length j → 5 * (held' + free) ≤ length j'
+  still_room free e h = omega (arith, h, e, same_held)
 
   -- what the second finds is what both find
   pub stepped_else : {b : ℕ} {r'' : Round} {ps'' : List Place} {queue'' flags'' j'' : List ℕ} {gain'' : Time} {held'' : ℕ} {head'' : Place} {count'' : ℕ} (other : Track → Found)

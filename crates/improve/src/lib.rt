@@ -2,133 +2,79 @@
 
 #![tactic(auto)]
 
-ghost use Rattle.std.specs.Prelude.{◌≡◌, List, [], ◌∷◌, ℕ, ◌<◌, length};
-ghost use Rattle.rules.specs.Journal.{track_of};
-ghost use Rattle.rules.specs.Queue.{push_all, waiting};
+ghost use Rattle.std.specs.Prelude.{◌≡◌, List, [], ◌∷◌, ℕ, ◌+◌, ◌*◌, ◌≤◌, ◌<◌, length};
+ghost use Rattle.rules.specs.Queue.{push_all};
 ghost use Rattle.rules.specs.Improve.{ends_of, improve as improve_of, improve_both as improve_both_of};
-ghost use Rattle.journal.specs.Journalled.{Journalled};
-ghost use Rattle.queue.specs.Lines.{InLine, Waits};
+ghost use Rattle.journal.specs.Tracks.{track_in};
+ghost use Rattle.queue.specs.Queues.{SameQueue, waiting_in, Queued};
 ghost use Rattle.moves.specs.Moves.{Six};
-ghost use Rattle.scans.specs.Scans.{Ready};
-ghost use Rattle.improve.specs.Steps.{plan_of, near_plan, trial_of, Stepped};
+ghost use Rattle.work.specs.Works.{SameWork};
+ghost use Rattle.improve.specs.Steps.{near_in, plan_with, trial_of, Steps};
 
 use legs::Stop;
+use legs::plan::Plan;
 use moves::moves::{Move, apply_seq3};
-use queue::{Line, push};
-use ring::stops::ahead;
+use queue::queue::Queue;
 use scans::find_move;
-
-// What a step gained, 0 for nothing; how many entries are held, and who waits.
-#[derive(Clone, Copy)]
-pub struct Gained {
-    pub gain: u32,
-    pub held: usize,
-    pub line: Line,
-}
+use work::work::Work;
 
 // Pushes two stops.
-pub fn push_two(queue: &mut [u32], flags: &mut [u8], line: Line, a: Stop, b: Stop) -> Line
-    requires in_line { InLine queue.old flags.old line.head line.count }
-    requires a_in_bounds { a.0 < length queue.old }
-    requires b_in_bounds { b.0 < length queue.old }
-    ensures { Waits (push_all (waiting queue.old line.head line.count) (a.0 ∷ b.0 ∷ [])) line.head queue.new flags.new result.head result.count }
+pub fn push_two(queue: &mut Queue, a: Stop, b: Stop)
+    requires a_low { a.0 < length queue.old.words.now }
+    requires b_low { b.0 < length queue.old.words.now }
+    ensures same { SameQueue queue.old queue.new }
+    ensures waits { Queued (push_all (waiting_in queue.old) (a.0 ∷ b.0 ∷ [])) queue.old.head queue.new }
 {
-    let l = push(queue, flags, line, a);
-    push(queue, flags, l, b)
+    queue.push(a);
+    queue.push(b);
 }
 
 // Pushes the ends of the legs that a move changes, in order.
-pub fn push_move(
-    queue: &mut [u32],
-    flags: &mut [u8],
-    line: Line,
-    t1: Stop,
-    t2: Stop,
-    mv: Move,
-) -> Line
-    requires in_line { InLine queue.old flags.old line.head line.count }
-    requires six { Six (length queue.old) t1.0 t2.0 mv.t3.0 mv.t4.0 mv.t5.0 mv.t6.0 }
-    ensures { Waits (push_all (waiting queue.old line.head line.count) (t1.0 ∷ t2.0 ∷ ends_of (trial_of mv.case mv.t3.0 mv.t4.0 mv.t5.0 mv.t6.0))) line.head queue.new flags.new result.head result.count }
+pub fn push_move(queue: &mut Queue, t1: Stop, t2: Stop, mv: Move)
+    requires six { Six (length queue.old.words.now) t1.0 t2.0 mv.t3.0 mv.t4.0 mv.t5.0 mv.t6.0 }
+    ensures same { SameQueue queue.old queue.new }
+    ensures waits { Queued (push_all (waiting_in queue.old) (t1.0 ∷ t2.0 ∷ ends_of (trial_of mv.case mv.t3.0 mv.t4.0 mv.t5.0 mv.t6.0))) queue.old.head queue.new }
 {
-    let a = push_two(queue, flags, line, t1, t2);
-    let b = push_two(queue, flags, a, mv.t3, mv.t4);
-    let case = mv.case;
-    if case == 1 {
-        return b;
+    push_two(queue, t1, t2);
+    push_two(queue, mv.t3, mv.t4);
+    if mv.case != 1 {
+        push_two(queue, mv.t5, mv.t6);
     }
-    push_two(queue, flags, b, mv.t5, mv.t6)
 }
 
 // Finds the first move from t1 in the direction that gains, carries it out and queues its stops; 0 where there is none.
-pub fn improve(
-    matrix: &[u16],
-    near: &[u32],
-    k: usize,
-    round: &mut [u32],
-    places: &mut [u32],
-    scratch: &mut [u32],
-    queue: &mut [u32],
-    flags: &mut [u8],
-    journal: &mut [u32],
-    held: usize,
-    line: Line,
-    fwd: bool,
-    t1: Stop,
-) -> Gained
-    requires ready { Ready matrix.now near.now k round.old places.old }
-    requires t1_in_bounds { t1.0 < length round.old }
-    requires scratch_len { length scratch.old ≡ length round.old }
-    requires queue_len { length queue.old ≡ length round.old }
-    requires in_line { InLine queue.old flags.old line.head line.count }
-    requires journalled { Journalled (length round.old) journal.old held 2 }
-    ensures { Stepped 2 (improve_of (near_plan (length round.old) matrix.now k near.now) fwd t1.0 (track_of round.old journal.old held)) queue.old line.head line.count journal.old held round.new places.new queue.new flags.new journal.new result.gain result.held result.line.head result.line.count }
+pub fn improve(plan: &Plan, work: &mut Work, fwd: bool, t1: Stop) -> u32
+    requires size { plan.now.matrix.n ≡ length work.old.track.now.stops.now }
+    requires t1_low { t1.0 < length work.old.track.now.stops.now }
+    requires room { 5 * (work.old.track.now.held + 2) ≤ length work.old.track.now.journal.now }
+    ensures same { SameWork work.old work.new }
+    ensures stepped { Steps 2 (improve_of (near_in plan.now) fwd t1.0 (track_in work.old.track.now)) work.old work.new result }
 {
-    let mv = find_move(matrix, near, k, round, places, fwd, t1);
+    let round = work.track.round();
+    let mv = find_move(plan, &round, fwd, t1);
     let gain = mv.gain;
     if gain == 0 {
-        return Gained { gain, held, line };
+        return gain;
     }
-    let t2 = ahead(round, places, fwd, t1);
-    let h = apply_seq3(round, places, scratch, journal, held, fwd, t1, t2, mv);
-    let l = push_move(queue, flags, line, t1, t2, mv);
-    Gained {
-        gain,
-        held: h,
-        line: l,
-    }
+    let t2 = round.ahead(fwd, t1);
+    let track = &mut *work.track;
+    let scratch = &mut *work.scratch;
+    apply_seq3(track, scratch, fwd, t1, t2, mv);
+    push_move(work.queue, t1, t2, mv);
+    gain
 }
 
 // `improve`, forward then backward; whatever the alpha lists are, it reads none.
-pub fn improve_both(
-    matrix: &[u16],
-    near: &[u32],
-    k: usize,
-    round: &mut [u32],
-    places: &mut [u32],
-    scratch: &mut [u32],
-    queue: &mut [u32],
-    flags: &mut [u8],
-    journal: &mut [u32],
-    held: usize,
-    line: Line,
-    t1: Stop,
-) -> Gained
-    requires ready { Ready matrix.now near.now k round.old places.old }
-    requires t1_in_bounds { t1.0 < length round.old }
-    requires scratch_len { length scratch.old ≡ length round.old }
-    requires queue_len { length queue.old ≡ length round.old }
-    requires in_line { InLine queue.old flags.old line.head line.count }
-    requires journalled { Journalled (length round.old) journal.old held 2 }
-    ensures { (ka : ℕ) (alpha : List ℕ) → Stepped 2 (improve_both_of (plan_of (length round.old) matrix.now k near.now ka alpha) t1.0 (track_of round.old journal.old held)) queue.old line.head line.count journal.old held round.new places.new queue.new flags.new journal.new result.gain result.held result.line.head result.line.count }
+pub fn improve_both(plan: &Plan, work: &mut Work, t1: Stop) -> u32
+    requires size { plan.now.matrix.n ≡ length work.old.track.now.stops.now }
+    requires t1_low { t1.0 < length work.old.track.now.stops.now }
+    requires room { 5 * (work.old.track.now.held + 2) ≤ length work.old.track.now.journal.now }
+    ensures same { SameWork work.old work.new }
+    ensures stepped { (ka : ℕ) (alpha : List ℕ) → Steps 2 (improve_both_of (plan_with plan.now ka alpha) t1.0 (track_in work.old.track.now)) work.old work.new result }
 {
-    let a = improve(
-        matrix, near, k, round, places, scratch, queue, flags, journal, held, line, true, t1,
-    );
-    if 0 < a.gain {
-        return a;
+    let gain = improve(plan, work, true, t1);
+    if 0 < gain {
+        return gain;
     }
-    let left = a.line;
-    improve(
-        matrix, near, k, round, places, scratch, queue, flags, journal, a.held, left, false, t1,
-    )
+    improve(plan, work, false, t1)
 }

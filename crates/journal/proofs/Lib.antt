@@ -1,4 +1,4 @@
 pub mod GrewLaws
-mod KindLaws
+pub mod KindLaws
 mod MoveLaws
 pub mod SameLaws

@@ -15,7 +15,9 @@ use Rattle.laws.proofs.TurnLaws.{On, low, high, turn_on, turn_mod}
 use Rattle.ring.specs.Legs.{IsTime}
 use Rattle.journal.specs.Journalled.{Moved}
 use Rattle.queue.specs.Lines.{Waits}
-use Rattle.kicks.specs.Exchanging.{stop_on, joining, queued, EndsOf, Eight, exchange_kick}
+use Rattle.kicks.specs.declared.cuts.Cut.{Cut}
+use Rattle.kicks.specs.declared.ends.Ends.{Ends}
+use Rattle.kicks.specs.Exchanging.{stop_on, joining, queued, joints_of, ends_queued, exchanged, EndsOf, Eight, exchange_kick, exchanging}
 use Rattle.kicks.specs.Kicking.{Made}
 use Rattle.kicks.proofs.KickingLaws.{tracked_moved, waits_as}
 
@@ -25,8 +27,8 @@ unfolding exchange_kick segment_kick stop_on queued
 exchange_segment d a b c start t = refl
 
 -- the ends are stops
-pub ends_eight : {r : Round} {start : Place} {a b c : ℕ} {p x0 x1 y0 y1 z0 z1 q : Stop} (n : ℕ) → length r ≡ n → EndsOf r start a b c p x0 x1 y0 y1 z0 z1 q → Eight n p x0 x1 y0 y1 z0 z1 q
-ends_eight {r} n l e = record {
+pub ends_eight : {r : Round} {cut : Cut} {e : Ends} (n : ℕ) → length r ≡ n → EndsOf r cut e → Eight n e
+ends_eight n l e = record {
   p_low = rw (← l) e.p_is.below;
   x0_low = rw (← l) e.x0_is.below;
   x1_low = rw (← l) e.x1_is.below;
@@ -38,7 +40,7 @@ ends_eight {r} n l e = record {
 }
 
 -- X and Z the other way round
-pub eight_other : {n p x0 x1 y0 y1 z0 z1 q : ℕ} → Eight n p x0 x1 y0 y1 z0 z1 q → Eight n p z0 z1 y0 y1 x0 x1 q
+pub eight_other : {n : ℕ} {e : Ends} → Eight n e → Eight n (exchanged e)
 eight_other e = record {
   p_low = e.p_low;
   x0_low = e.z0_low;
@@ -50,19 +52,19 @@ eight_other e = record {
   q_low = e.q_low;
 }
 
-module _ (bridge : Bool) (d : Legs) (a b c : ℕ) (start : Place) (r : Round) (journal : List ℕ) (held : ℕ) {p x0 x1 y0 y1 z0 z1 q : Stop} (e : EndsOf r start a b c p x0 x1 y0 y1 z0 z1 q) where
+module _ (bridge : Bool) (d : Legs) (cut : Cut) (r : Round) (journal : List ℕ) (held : ℕ) {e : Ends} (g : EndsOf r cut e) where
   -- the ends, their legs and the rotation make up the kick
   pub exchange_made : {w : List Stop} {head : Place} {round : Round} {places : List Place} {journal' : List ℕ} {held' : ℕ} {queue flags : List ℕ} {head' : Place} {count added removed : ℕ}
-      → Moved (doing (rotation start a b c) (track_of r journal held)) journal held round places journal' held'
-      → Waits (push_all w (queued bridge b p x0 x1 y0 y1 z0 z1 q)) head queue flags head' count
-      → IsTime 4 (joining d b p z0 z1 y0 y1 x0 x1 q) added → IsTime 4 (joining d b p x0 x1 y0 y1 z0 z1 q) removed
-      → Made (exchange_kick bridge d a b c start (track_of r journal held)) 1 4 w head journal held round places journal' held' queue flags head' count added removed
+      → Moved (doing (rotation cut.start.0 cut.a cut.b cut.c) (track_of r journal held)) journal held round places journal' held'
+      → Waits (push_all w (ends_queued bridge cut.b e)) head queue flags head' count
+      → IsTime 4 (joints_of d cut.b (exchanged e)) added → IsTime 4 (joints_of d cut.b e) removed
+      → Made (exchanging bridge d cut (track_of r journal held)) 1 4 w head journal held round places journal' held' queue flags head' count added removed
   unfolding exchange_kick segment_kick stop_on joining track_of
   exchange_made {w = w} m v come go = record {
     moved = tracked_moved m;
-    waits = waits_as w (queued bridge b p x0 x1 y0 y1 z0 z1 q) v _ (rw (e.p_is.is, e.x0_is.is, e.x1_is.is, e.y0_is.is, e.y1_is.is, e.z0_is.is, e.z1_is.is, e.q_is.is) refl);
-    added_is = record { is = come.is ∙ (rw (e.p_is.is, e.x0_is.is, e.x1_is.is, e.y0_is.is, e.y1_is.is, e.z0_is.is, e.z1_is.is, e.q_is.is) refl); small = come.small };
-    removed_is = record { is = go.is ∙ (rw (e.p_is.is, e.x0_is.is, e.x1_is.is, e.y0_is.is, e.y1_is.is, e.z0_is.is, e.z1_is.is, e.q_is.is) refl); small = go.small };
+    waits = waits_as w (ends_queued bridge cut.b e) v _ (rw (g.p_is.is, g.x0_is.is, g.x1_is.is, g.y0_is.is, g.y1_is.is, g.z0_is.is, g.z1_is.is, g.q_is.is) refl);
+    added_is = record { is = come.is ∙ (rw (g.p_is.is, g.x0_is.is, g.x1_is.is, g.y0_is.is, g.y1_is.is, g.z0_is.is, g.z1_is.is, g.q_is.is) refl); small = come.small };
+    removed_is = record { is = go.is ∙ (rw (g.p_is.is, g.x0_is.is, g.x1_is.is, g.y0_is.is, g.y1_is.is, g.z0_is.is, g.z1_is.is, g.q_is.is) refl); small = go.small };
   }
 
 -- the double bridge A B C D to A D C B: B, C and D from the end of A on

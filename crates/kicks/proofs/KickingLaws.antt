@@ -11,10 +11,14 @@ use Rattle.rules.specs.Kicks.{Kicked, and_then}
 use Rattle.rules.specs.SharedWords.{Tied}
 use Rattle.laws.proofs.QueueLaws.{push_all_join}
 use Rattle.ring.specs.Legs.{IsTime, Stops}
-use Rattle.journal.specs.Journalled.{Journalled, Moved}
+use Rattle.legs.specs.declared.matrix.Matrix.{Matrix}
+use Rattle.journal.specs.Journalled.{Moved}
 use Rattle.journal.proofs.GrewLaws.{grew_grew}
 use Rattle.queue.specs.Lines.{Waits}
-use Rattle.kicks.specs.Kicking.{Ready, Tracked, Made}
+use Rattle.work.specs.declared.work.Work.{Work}
+use Rattle.work.specs.Works.{SameWork}
+use Rattle.kicks.specs.declared.Kicked.{Kicked as KickedOf}
+use Rattle.kicks.specs.Kicking.{Ready, Tracked, Made, MadeOn}
 
 -- the stops of a round
 pub tied_stops : {r : Round} {places : List Place} (n : ℕ) → length r ≡ n → Tied r places → Stops r n
@@ -30,26 +34,13 @@ module _ (q l : List Stop) {head : Place} {queue flags : List ℕ} {head' : Plac
   waits_more m v = record { is = v.is ∙ ap (λ (x : List Stop). push_all x m) w.is ∙ sym (push_all_join q l m); head_is = v.head_is ∙ w.head_is; line = v.line }
 
 -- ---- memory to work in
-pub journalled_fewer : {n held : ℕ} {journal : List ℕ} {free : ℕ} (less : ℕ) → less ≤ free → Journalled n journal held free → Journalled n journal held less
-journalled_fewer less h j = record { good = j.good; room = omega (arith, j.room) }
-
-module _ {matrix : List Time} {round : Round} {places : List Place} {journal : List ℕ} {held free : ℕ} {queue flags : List ℕ} {head : Place} {count : ℕ} (g : Ready matrix round places journal held free queue flags head count) where
-  pub ready_fewer : (less : ℕ) → less ≤ free → Ready matrix round places journal held less queue flags head count
-  ready_fewer less h = record { two = g.two; tied = g.tied; square = g.square; journalled = journalled_fewer less h g.journalled; long = g.long; line = g.line }
+module _ {free : ℕ} {m : Matrix} {a : Work} (g : Ready free m a) where
+  pub ready_fewer : (less : ℕ) → less ≤ free → Ready less m a
+  ready_fewer less h = record { two = g.two; size = g.size; room = omega (arith, g.room) }
 
   -- after a kick there is that much less room
-  pub ready_after : {k : Kicked} {most legs : ℕ} {q : List Stop} {at : Place} {round' : Round} {places' : List Place} {journal' : List ℕ} {held' : ℕ} {queue' flags' : List ℕ} {head' : Place} {count' added removed : ℕ} (less : ℕ)
-      → Made k most legs q at journal held round' places' journal' held' queue' flags' head' count' added removed → most + less ≤ free
-      → length round' ≡ length round → length journal' ≡ length journal → length queue' ≡ length queue
-      → Ready matrix round' places' journal' held' less queue' flags' head' count'
-  ready_after less m h er ej eq = record {
-    two = omega (arith, g.two);
-    tied = m.moved.tied;
-    square = rw er g.square;
-    journalled = record { good = m.moved.good; room = omega (arith, g.journalled.room, m.moved.high) };
-    long = omega (arith, g.long);
-    line = m.waits.line;
-  }
+  pub ready_after : (less : ℕ) {k : Kicked} {most legs : ℕ} (b : Work) {r : KickedOf} → SameWork a b → MadeOn k most legs a b r → most + less ≤ free → Ready less m b
+  ready_after less b s k h = record { two = omega (arith, g.two, s.size); size = omega (arith, g.size, s.size); room = omega (arith, g.room, s.room, k.moved.high) }
 
 -- ---- entries that are journalled
 module _ {t : Track} {journal : List ℕ} {held : ℕ} {round : Round} {places : List Place} {journal' : List ℕ} {held' : ℕ} where

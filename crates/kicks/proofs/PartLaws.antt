@@ -9,16 +9,20 @@ use borrow.Author.Tests.{lt-ltb, le-ltb}
 use Rattle.rules.specs.Words.{Stop, Place, Round, Time, Legs}
 use Rattle.rules.specs.Draws.{◌to◌, drawn, draws, moved}
 use Rattle.rules.specs.Ring.{prev, turn, path_cost, recount}
-use Rattle.rules.specs.Queue.{push_all, waiting}
+use Rattle.rules.specs.Queue.{push_all}
 use Rattle.rules.specs.Journal.{Track, track_of}
 use Rattle.rules.specs.Kicks.{shuffle_spans, shuffled, shuffle_kick, window_kick, bridge_kick}
 use Rattle.laws.proofs.DrawLaws.{draws_values, draws_state}
 use Rattle.ring.specs.Legs.{IsTime}
+use Rattle.journal.specs.Tracks.{track_in}
 use Rattle.journal.proofs.GrewLaws.{grew_self}
 use Rattle.queue.specs.Lines.{Waits}
+use Rattle.work.specs.declared.work.Work.{Work}
+use Rattle.kicks.specs.declared.Kicked.{Kicked as KickedOf}
+use Rattle.kicks.specs.declared.cuts.Cut.{Cut}
 use Rattle.kicks.specs.Drawing.{BridgeDrawn}
-use Rattle.kicks.specs.Exchanging.{exchange_kick}
-use Rattle.kicks.specs.Kicking.{Ready, Shuffled, Made, Kicks, still, shuffle_drawn, window_drawn, global_drawn}
+use Rattle.kicks.specs.Exchanging.{exchanging}
+use Rattle.kicks.specs.Kicking.{Shuffled, MadeOn, Kicks, KicksOn, still, shuffle_drawn, window_drawn, global_drawn}
 use Rattle.kicks.proofs.ExchangeLaws.{exchange_bridge}
 use Rattle.kicks.proofs.GlobalLaws.{global_bridge}
 use Rattle.kicks.proofs.KickingLaws.{waits_as, tracked_wider, time_wider, made_then}
@@ -66,16 +70,15 @@ module _ (d : Legs) (r : Round) (journal : List ℕ) (held x : ℕ) {q : List St
       })
 
 -- no window below 32 stops
-pub window_still : (d : Legs) (x : ℕ) {matrix : List Time} {r : Round} {places : List Place} {journal : List ℕ} {held free : ℕ} {queue flags : List ℕ} {head : Place} {count : ℕ} → length r < 32
-    → Ready matrix r places journal held free queue flags head count
-    → Kicks (window_drawn d x (track_of r journal held)) x 29 31 (waiting queue head count) head journal held r places journal held queue flags head count 0 0 x
+pub window_still : (d : Legs) (x : ℕ) (a : Work) → length a.track.now.stops.now < 32 → KicksOn (window_drawn d x (track_in a.track.now)) x 29 31 a a (record { added = 0; removed = 0 }) x
 unfolding window_drawn still track_of push_all
-window_still d x {r = r} {journal = journal} {held} h g =
-    rw (lt-ltb (length r) 32 h)
+window_still d x a h =
+    let t = a.track.now in
+    rw (lt-ltb (length t.stops.now) 32 h)
     (record {
       made = record {
-        moved = record { is = refl; tied = g.tied; good = g.journalled.good; grew = grew_self journal held; high = omega arith };
-        waits = record { is = refl; head_is = refl; line = g.line };
+        moved = record { is = refl; tied = t.tied; good = t.good; grew = grew_self t.journal.now t.held; high = omega arith };
+        waits = record { is = refl; head_is = refl; line = a.queue.now.in_line };
         added_is = record { is = refl; small = omega arith };
         removed_is = record { is = refl; small = omega arith };
       };
@@ -84,22 +87,19 @@ window_still d x {r = r} {journal = journal} {held} h g =
     })
 
 -- a double bridge, and what follows it
-pub bridge_made : (d : Legs) (r : Round) (journal : List ℕ) (held x x3 : ℕ) (start : Place) (a b c : ℕ) → 8 ≤ length r → BridgeDrawn (length r) x x3 start a b c
-    → {q : List Stop} {head : Place} {r1 : Round} {p1 : List Place} {j1 : List ℕ} {h1 : ℕ} {q1 f1 : List ℕ} {head1 : Place} {c1 a1 m1 : ℕ}
-    → Made (exchange_kick true d a b c start (track_of r journal held)) 1 4 q head journal held r1 p1 j1 h1 q1 f1 head1 c1 a1 m1
-    → {r2 : Round} {p2 : List Place} {j2 : List ℕ} {h2 : ℕ} {q2 f2 : List ℕ} {head2 : Place} {c2 a2 m2 new : ℕ}
-    → Kicks (window_drawn d x3 (track_of r1 j1 h1)) x3 29 31 (waiting q1 head1 c1) head1 j1 h1 r2 p2 j2 h2 q2 f2 head2 c2 a2 m2 new
-    → Kicks (global_drawn d x (track_of r journal held)) x 30 35 q head journal held r2 p2 j2 h2 q2 f2 head2 c2 (a1 + a2) (m1 + m2) new
+pub bridge_made : (d : Legs) (x x3 : ℕ) (cut : Cut) (a b c : Work) (k w : KickedOf) (new : ℕ) → 8 ≤ length a.track.now.stops.now → BridgeDrawn (length a.track.now.stops.now) x x3 cut
+    → MadeOn (exchanging true d cut (track_in a.track.now)) 1 4 a b k → KicksOn (window_drawn d x3 (track_in b.track.now)) x3 29 31 b c w new
+    → KicksOn (global_drawn d x (track_in a.track.now)) x 30 35 a c (record { added = k.added + w.added; removed = k.removed + w.removed }) new
 unfolding track_of
-bridge_made d r journal held x x3 start a b c long g m w =
-    let t = track_of r journal held in
-    let k = bridge_kick d start a b t in
-    let e : exchange_kick true d a b c start t ≡ k = exchange_bridge d start a b c t g.before g.segments.first g.middle (omega (arith, g.rest, g.segments.last)) g.rest in
+bridge_made d x x3 cut a b c k w new long g m o =
+    let t = track_in a.track.now in
+    let u = bridge_kick d cut.start.0 cut.a cut.b t in
+    let e : exchanging true d cut t ≡ u = exchange_bridge d cut.start.0 cut.a cut.b cut.c t g.before g.segments.first g.middle (omega (arith, g.rest, g.segments.last)) g.rest in
     let m' = rw e at m in
-    let w' = rw m'.moved.is at w in
-    rw (global_bridge d x x3 start a b t long g.is)
+    let o' = rw m'.moved.is at o in
+    rw (global_bridge d x x3 cut.start.0 cut.a cut.b t long g.is)
     (record {
-      made = made_then m' (window_drawn d x3 k.track).made w'.made;
-      state = w'.state;
-      some = λ p. w'.some (g.some p);
+      made = made_then m' (window_drawn d x3 u.track).made o'.made;
+      state = o'.state;
+      some = λ p. o'.some (g.some p);
     })

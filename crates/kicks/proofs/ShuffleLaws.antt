@@ -6,26 +6,25 @@ use mathlib.Core.List.{List, ◌∷◌}
 use native.Mathlib.Omega.{arith}
 use lib.Dec.{eqb}
 use lib.ListN.{length}
-use Rattle.rules.specs.Words.{Place, Round}
+use Rattle.rules.specs.Words.{Place}
 use Rattle.rules.specs.Lists.{when◌then◌else◌}
 use Rattle.rules.specs.Draws.{drawn, moved, draws}
-use Rattle.rules.specs.Journal.{Track, swap, good_journal, track_of, doing}
+use Rattle.rules.specs.Journal.{Track, swap, doing}
 use Rattle.rules.specs.Kicks.{shuffle_spans, shuffled}
-use Rattle.rules.specs.SharedWords.{Tied}
 use Rattle.laws.proofs.DrawLaws.{draws_long}
-use Rattle.journal.specs.Journalled.{Grew, Moved}
+use Rattle.journal.specs.declared.track.Track.{Track as TrackOf}
+use Rattle.journal.specs.Journalled.{Grew}
+use Rattle.journal.specs.Tracks.{track_in, Moves}
 use Rattle.journal.proofs.GrewLaws.{grew_self, grew_grew}
-use Rattle.kicks.specs.Kicking.{Shuffled}
+use Rattle.kicks.specs.Kicking.{Shuffles}
 
--- k places are left, the rest are shuffled
-pub record Shuffling (start : Place) (len x₀ : ℕ) (round₀ : Round) (journal₀ : List ℕ) (held : ℕ) (round : Round) (places : List Place) (journal : List ℕ) (x h k : ℕ) : Type 0 where
-  pub tied : Tied round places
-  pub good : good_journal (length round) journal h ≡ true
-  pub grew : Grew journal₀ held journal h
-  pub high : h + (k - 1) ≤ held + (len - 1)
+-- from the track a and the state x₀ on: k places are left at b and x, the rest are shuffled
+pub record Shuffling (start : Place) (len x₀ : ℕ) (a b : TrackOf) (x k : ℕ) : Type 0 where
+  pub grew : Grew a.journal.now a.held b.journal.now b.held
+  pub high : b.held + (k - 1) ≤ a.held + (len - 1)
   pub more : k ≤ len
   pub some : 0 < x₀ → 0 < x
-  pub track : shuffled start (draws (shuffle_spans k) x).values (track_of round journal h) ≡ shuffled start (draws (shuffle_spans len) x₀).values (track_of round₀ journal₀ held)
+  pub track : shuffled start (draws (shuffle_spans k) x).values (track_in b) ≡ shuffled start (draws (shuffle_spans len) x₀).values (track_in a)
   pub state : (draws (shuffle_spans k) x).state ≡ (draws (shuffle_spans len) x₀).state
 
 spans_long : (j : ℕ) → length (shuffle_spans (suc j)) ≡ j
@@ -64,45 +63,32 @@ last_state zero x h = refl
 last_state (suc zero) x h = refl
 last_state (suc (suc j)) x h = absurd (omega arith)
 
-module _ (start : Place) (len x₀ : ℕ) (round₀ : Round) (journal₀ : List ℕ) (held : ℕ) where
-  pub shuffle_starts : (places : List Place) → Tied round₀ places → good_journal (length round₀) journal₀ held ≡ true → Shuffling start len x₀ round₀ journal₀ held round₀ places journal₀ x₀ held len
-  shuffle_starts places tied good = record {
-    tied = tied;
-    good = good;
-    grew = grew_self journal₀ held;
-    high = omega arith;
-    more = omega arith;
-    some = λ p. p;
-    track = refl;
-    state = refl;
-  }
+module _ (start : Place) (len x₀ : ℕ) (a : TrackOf) where
+  pub shuffle_starts : Shuffling start len x₀ a a x₀ len
+  shuffle_starts = record { grew = grew_self a.journal.now a.held; high = omega arith; more = omega arith; some = λ p. p; track = refl; state = refl }
 
-  module _ (round : Round) (places : List Place) (journal : List ℕ) (x h k : ℕ) (s : Shuffling start len x₀ round₀ journal₀ held round places journal x h k) where
+  module _ (b : TrackOf) (x k : ℕ) (s : Shuffling start len x₀ a b x k) where
     -- one place more
-    pub shuffle_turn : (round' : Round) (places' : List Place) (journal' : List ℕ) (x' h' v : ℕ) → 2 ≤ k → x' ≡ moved x → (0 < x → 0 < x') → v ≡ drawn 0 (k - 1) (moved x)
-        → Moved (when eqb v (k - 1) then track_of round journal h else doing (swap (start + v) (start + (k - 1))) (track_of round journal h)) journal h round' places' journal' h'
-        → Shuffling start len x₀ round₀ journal₀ held round' places' journal' x' h' (k - 1)
-    shuffle_turn round' places' journal' x' h' v two ex some ev m =
+    pub shuffle_turn : (b' : TrackOf) (x' v : ℕ) → 2 ≤ k → x' ≡ moved x → (0 < x → 0 < x') → v ≡ drawn 0 (k - 1) (moved x)
+        → Moves (when eqb v (k - 1) then track_in b else doing (swap (start + v) (start + (k - 1))) (track_in b)) b b' → Shuffling start len x₀ a b' x' (k - 1)
+    shuffle_turn b' x' v two ex some ev m =
         let one : 1 ≤ k - 1 = omega arith in
         let q : suc (k - 1) ≡ k = omega arith in
         record {
-          tied = m.tied;
-          good = m.good;
           grew = grew_grew s.grew m.grew;
           high = omega (arith, m.high, s.high);
           more = omega (arith, s.more);
           some = λ p. some (s.some p);
-          track = (rw q at (shuffle_track start (k - 1) x x' v (track_of round journal h) (track_of round' journal' h') one ex ev m.is)) ∙ s.track;
+          track = (rw q at (shuffle_track start (k - 1) x x' v (track_in b) (track_in b') one ex ev m.is)) ∙ s.track;
           state = (rw q at (shuffle_state (k - 1) x x' one ex)) ∙ s.state;
         }
 
-    pub shuffle_done : k ≤ 1
-        → Shuffled (shuffled start (draws (shuffle_spans len) x₀).values (track_of round₀ journal₀ held)) (draws (shuffle_spans len) x₀).state (len - 1) x₀ journal₀ held round places journal h x
+    pub shuffle_done : k ≤ 1 → Shuffles start len x₀ a b x
     shuffle_done few = record {
       moved = record {
-        is = sym (last_track start k x (track_of round journal h) few) ∙ s.track;
-        tied = s.tied;
-        good = s.good;
+        is = sym (last_track start k x (track_in b) few) ∙ s.track;
+        tied = b.tied;
+        good = b.good;
         grew = s.grew;
         high = omega (arith, s.high);
       };

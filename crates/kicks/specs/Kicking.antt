@@ -1,24 +1,32 @@
 -- What the kicks ask and promise. Assumes nothing.
-use Rattle.std.specs.Prelude.{ℕ, ◌+◌, ◌-◌, ◌≤◌, ◌<◌, ◌≡◌, true, List, [], ◌∷◌, ltb, length, drop}
+use Rattle.std.specs.Prelude.{ℕ, ◌+◌, ◌-◌, ◌*◌, ◌≤◌, ◌<◌, ◌≡◌, true, List, [], ◌∷◌, ltb, length, drop}
 use Rattle.rules.specs.Words.{Stop, Place, Time, Round, Legs}
 use Rattle.rules.specs.Lists.{when◌then◌else◌, at}
+use Rattle.rules.specs.Plan.{leg_in}
 use Rattle.rules.specs.Draws.{◌to◌, draws}
 use Rattle.rules.specs.Queue.{push_all}
 use Rattle.rules.specs.Journal.{Track, good_journal, track_of}
-use Rattle.rules.specs.Kicks.{Kicked, Kick, shuffle_spans, global_spans, shuffle_kick, window_kick, global_kick}
-use Rattle.rules.specs.SharedWords.{Tied, Square}
+use Rattle.rules.specs.Kicks.{Kicked, Kick, shuffle_spans, global_spans, shuffled, shuffle_kick, window_kick, global_kick}
+use Rattle.rules.specs.SharedWords.{Tied}
+use Rattle.legs.specs.declared.matrix.Matrix.{Matrix}
 use Rattle.ring.specs.Legs.{IsTime}
-use Rattle.journal.specs.Journalled.{Journalled, Grew}
-use Rattle.queue.specs.Lines.{InLine, Waits}
+use Rattle.journal.specs.Journalled.{Grew}
+use Rattle.journal.specs.Tracks.{track_in}
+use Rattle.journal.specs.declared.track.Track.{Track as TrackOf}
+use Rattle.queue.specs.Lines.{Waits}
+use Rattle.queue.specs.Queues.{waiting_in}
+use Rattle.work.specs.declared.work.Work.{Work}
+use Rattle.kicks.specs.declared.Kicked.{Kicked as KickedOf}
 
--- memory that a kick may work in: two stops or more, and room for `free` journal entries
-pub record Ready (matrix : List Time) (round : Round) (places : List Place) (journal : List ℕ) (held free : ℕ) (queue flags : List ℕ) (head : Place) (count : ℕ) : Type 0 where
-  pub two : 2 ≤ length round
-  pub tied : Tied round places
-  pub square : Square matrix (length round)
-  pub journalled : Journalled (length round) journal held free
-  pub long : length queue ≡ length round
-  pub line : InLine queue flags head count
+-- memory that a kick may work in: two stops or more, the matrix of as many, and room for `free` journal entries
+pub record Ready (free : ℕ) (m : Matrix) (w : Work) : Type 0 where
+  pub two : 2 ≤ length w.track.now.stops.now
+  pub size : m.n ≡ length w.track.now.stops.now
+  pub room : 5 * (w.track.now.held + free) ≤ length w.track.now.journal.now
+
+-- the legs that a matrix gives
+abbrev pub legs_in : Matrix → Legs
+legs_in m = leg_in m.n m.times.now
 
 -- round and journal are the track t, at most `most` entries were added
 pub record Tracked (t : Track) (most : ℕ) (journal : List ℕ) (held : ℕ) (round : Round) (places : List Place) (journal' : List ℕ) (held' : ℕ) : Type 0 where
@@ -34,6 +42,11 @@ pub record Shuffled (t : Track) (draw most x : ℕ) (journal : List ℕ) (held :
   pub state : new ≡ draw
   pub some : 0 < x → 0 < new
 
+-- a was left as b, and the draw state x as `new`: len places from `start` on shuffled
+abbrev pub Shuffles : Place → ℕ → ℕ → TrackOf → TrackOf → ℕ → Type 0
+Shuffles start len x a b new =
+    Shuffled (shuffled start (draws (shuffle_spans len) x).values (track_in a)) (draws (shuffle_spans len) x).state (len - 1) x a.journal.now a.held b.stops.now b.places.now b.journal.now b.held new
+
 -- k was done: with at most `most` entries, its stops wait behind q, and at most `legs` legs came and went
 pub record Made (k : Kicked) (most legs : ℕ) (q : List Stop) (head : Place) (journal : List ℕ) (held : ℕ) (round : Round) (places : List Place) (journal' : List ℕ) (held' : ℕ) (queue flags : List ℕ) (head' : Place) (count added removed : ℕ) : Type 0 where
   pub moved : Tracked k.track most journal held round places journal' held'
@@ -46,6 +59,16 @@ pub record Kicks (g : Kick) (x most legs : ℕ) (q : List Stop) (head : Place) (
   pub made : Made g.made most legs q head journal held round places journal' held' queue flags head' count added removed
   pub state : new ≡ g.draw
   pub some : 0 < x → 0 < new
+
+-- a was left as b: k was done in the memory that is lent
+abbrev pub MadeOn : Kicked → ℕ → ℕ → Work → Work → KickedOf → Type 0
+MadeOn k most legs a b r =
+    Made k most legs (waiting_in a.queue.now) a.queue.now.head a.track.now.journal.now a.track.now.held b.track.now.stops.now b.track.now.places.now b.track.now.journal.now b.track.now.held b.queue.now.words.now b.queue.now.flags.now b.queue.now.head b.queue.now.count r.added r.removed
+
+-- and g was, from the draw state x on, which is left as `new`
+abbrev pub KicksOn : Kick → ℕ → ℕ → ℕ → Work → Work → KickedOf → ℕ → Type 0
+KicksOn g x most legs a b r new =
+    Kicks g x most legs (waiting_in a.queue.now) a.queue.now.head a.track.now.journal.now a.track.now.held b.track.now.stops.now b.track.now.places.now b.track.now.journal.now b.track.now.held b.queue.now.words.now b.queue.now.flags.now b.queue.now.head b.queue.now.count r.added r.removed new
 
 -- ---- the parts of a global kick, with what they draw
 -- nothing was done

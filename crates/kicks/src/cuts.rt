@@ -4,8 +4,16 @@ ghost use Rattle.rules.specs.Kicks.{kind_at as kind_at_of};
 ghost use Rattle.kicks.specs.Drawing.{Longest, Middle, CutDrawn, BridgeDrawn};
 
 use draws::draw;
-use legs::{Place, wide};
-use ring::places::narrow;
+use legs::Place;
+
+// Segments X, Y and Z of a, b and c places from start on.
+#[derive(Clone, Copy)]
+pub struct Cut {
+    pub start: Place,
+    pub a: usize,
+    pub b: usize,
+    pub c: usize,
+}
 
 // The longest segment: 200, or a third of the other stops.
 fn longest(n: usize) -> u32
@@ -14,7 +22,7 @@ fn longest(n: usize) -> u32
     ensures { Longest n result }
 {
     let third = (n - 1) / 3;
-    if third < 200 { narrow(third) } else { 200 }
+    third.min(200) as u32
 }
 
 // The kind that is carried out: where a segment is too short, a global kick.
@@ -24,15 +32,6 @@ pub fn kind_at(n: usize, kind: u32) -> u32
     ensures { result ≡ kind_at_of n kind }
 {
     if longest(n) < 2 { 2 } else { kind }
-}
-
-// Segments X, Y and Z of a, b and c places from start on.
-#[derive(Clone, Copy)]
-pub struct Cut {
-    pub start: Place,
-    pub a: usize,
-    pub b: usize,
-    pub c: usize,
 }
 
 // The length of Y: none in a swap kick, and none is drawn.
@@ -52,18 +51,18 @@ pub fn draw_cut(state: &mut u64, n: usize, kind: u32) -> Cut
     requires n_bound { n ≤ 4096 }
     requires kind_bound { kind ≤ 1 }
     requires kind_value { kind_at_of n kind ≡ kind }
-    ensures { CutDrawn n kind state.old state.new result.start.0 result.a result.b result.c }
+    ensures { CutDrawn n kind state.old state.new result }
 {
     let high = longest(n);
     let a = draw(state, 1, high);
     let b = draw_middle(state, kind, high);
     let c = draw(state, 1, high);
-    let start = draw(state, 0, narrow(n - 1));
+    let start = draw(state, 0, (n - 1) as u32);
     Cut {
         start: Place(start),
-        a: wide(a),
-        b: wide(b),
-        c: wide(c),
+        a: a as usize,
+        b: b as usize,
+        c: c as usize,
     }
 }
 
@@ -71,18 +70,18 @@ pub fn draw_cut(state: &mut u64, n: usize, kind: u32) -> Cut
 pub fn draw_bridge(state: &mut u64, n: usize) -> Cut
     requires le_n { 8 ≤ n }
     requires n_bound { n ≤ 4096 }
-    ensures { BridgeDrawn n state.old state.new result.start.0 result.a result.b result.c }
+    ensures { BridgeDrawn n state.old state.new result }
 {
-    let high = narrow(n / 4);
+    let high = (n / 4) as u32;
     let la = draw(state, 1, high);
     let lb = draw(state, 1, high);
     let lc = draw(state, 1, high);
-    let a = wide(lb);
-    let b = wide(lc);
+    let a = lb as usize;
+    let b = lc as usize;
     Cut {
         start: Place(la),
         a,
         b,
-        c: n - (wide(la) + a + b),
+        c: n - (la as usize + a + b),
     }
 }

@@ -3,230 +3,134 @@
 #![tactic(auto)]
 
 ghost use Rattle.std.specs.Prelude.{◌≡◌, ℕ, ◌≤◌, ◌<◌, pos, ◌+ℤ◌, length};
-ghost use Rattle.rules.specs.Plan.{leg_in};
-ghost use Rattle.rules.specs.Queue.{waiting};
-ghost use Rattle.rules.specs.Journal.{track_of};
 ghost use Rattle.rules.specs.Kicks.{kick as kick_of};
-ghost use Rattle.kicks.specs.Exchanging.{Segments, exchange_kick};
-ghost use Rattle.kicks.specs.Kicking.{Ready, Made, Kicks, shuffle_drawn, window_drawn, global_drawn};
+ghost use Rattle.journal.specs.Tracks.{track_in};
+ghost use Rattle.work.specs.Works.{SameWork};
+ghost use Rattle.kicks.specs.Exchanging.{Segments, exchanging};
+ghost use Rattle.kicks.specs.Kicking.{legs_in, Ready, MadeOn, KicksOn, shuffle_drawn, window_drawn, global_drawn};
 
 use crate::cuts::{Cut, draw_bridge, draw_cut, kind_at};
-use crate::ends::{ends_of, joints, push_ends};
+use crate::ends::Ends;
 use crate::shuffles::shuffle;
 use draws::draw;
-use journal::rotate;
-use legs::{Place, wide};
-use queue::{Line, activate_all, push_places};
-use ring::places::{narrow, prev};
+use legs::Place;
+use legs::matrix::Matrix;
+use ring::places::prev;
 use ring::times::{cost, path_cost};
+use work::work::Work;
 
 pub mod cuts;
 pub mod ends;
 pub mod shuffles;
 
-// What a kick leaves: the entries held, those that wait, the time of the legs that came and of those that went.
+// What a kick did: the time of the legs that came and of those that went.
 #[derive(Clone, Copy)]
 pub struct Kicked {
-    pub held: usize,
-    pub line: Line,
     pub added: u32,
     pub removed: u32,
 }
 
 // Two segments change places, and the stops beside the cuts wait: p X Y Z q becomes p Z Y X q.
-fn exchange(
-    matrix: &[u16],
-    round: &mut [u32],
-    places: &mut [u32],
-    scratch: &mut [u32],
-    journal: &mut [u32],
-    queue: &mut [u32],
-    flags: &mut [u8],
-    held: usize,
-    line: Line,
-    cut: Cut,
-    bridge: bool,
-) -> Kicked
-    requires ready { Ready matrix.now round.old places.old journal.old held 1 queue.old flags.old line.head line.count }
-    requires scratch_len { length scratch.old ≡ length round.old }
-    requires segments { Segments (length round.old) cut.start.0 cut.a cut.b cut.c }
-    ensures { Made (exchange_kick bridge (leg_in (length round.old) matrix.now) cut.a cut.b cut.c cut.start.0 (track_of round.old journal.old held)) 1 4 (waiting queue.old line.head line.count) line.head journal.old held round.new places.new journal.new result.held queue.new flags.new result.line.head result.line.count result.added result.removed }
+fn exchange(matrix: &Matrix, work: &mut Work, cut: Cut, bridge: bool) -> Kicked
+    requires ready { Ready 1 matrix.now work.old }
+    requires segments { Segments (length work.old.track.now.stops.now) cut }
+    ensures same { SameWork work.old work.new }
+    ensures made { MadeOn (exchanging bridge (legs_in matrix.now) cut (track_in work.old.track.now)) 1 4 work.old work.new result }
 {
-    let n = round.len();
-    let start = cut.start;
+    let round = work.track.round();
+    let ends = Ends::of(&round, cut);
     let b = cut.b;
-    let e = ends_of(round, places, start, cut.a, b, cut.c);
-    let removed = joints(matrix, n, b, e.p, e.x0, e.x1, e.y0, e.y1, e.z0, e.z1, e.q);
-    let added = joints(matrix, n, b, e.p, e.z0, e.z1, e.y0, e.y1, e.x0, e.x1, e.q);
-    let h = rotate(
-        round, places, scratch, journal, held, start, cut.a, b, cut.c,
-    );
-    let l = push_ends(queue, flags, line, bridge, b, e);
-    Kicked {
-        held: h,
-        line: l,
-        added,
-        removed,
-    }
+    let removed = ends.joints(matrix, b);
+    let added = ends.exchanged().joints(matrix, b);
+    let track = &mut *work.track;
+    let scratch = &mut *work.scratch;
+    track.rotate(scratch, cut.start, cut.a, b, cut.c);
+    ends.push(work.queue, bridge, b);
+    Kicked { added, removed }
 }
 
 // A global kick below 8 stops: all places are shuffled, every leg is counted anew, every stop waits.
-fn shuffle_kick(
-    matrix: &[u16],
-    round: &mut [u32],
-    places: &mut [u32],
-    journal: &mut [u32],
-    queue: &mut [u32],
-    flags: &mut [u8],
-    state: &mut u64,
-    held: usize,
-    line: Line,
-) -> Kicked
-    requires ready { Ready matrix.now round.old places.old journal.old held 30 queue.old flags.old line.head line.count }
-    requires round_len_bound { length round.old < 8 }
-    ensures { Kicks (shuffle_drawn (leg_in (length round.old) matrix.now) state.old (track_of round.old journal.old held)) state.old 30 35 (waiting queue.old line.head line.count) line.head journal.old held round.new places.new journal.new result.held queue.new flags.new result.line.head result.line.count result.added result.removed state.new }
+fn shuffle_kick(matrix: &Matrix, work: &mut Work, state: &mut u64) -> Kicked
+    requires ready { Ready 30 matrix.now work.old }
+    requires few { length work.old.track.now.stops.now < 8 }
+    ensures same { SameWork work.old work.new }
+    ensures kicked { KicksOn (shuffle_drawn (legs_in matrix.now) state.old (track_in work.old.track.now)) state.old 30 35 work.old work.new result state.new }
 {
-    let removed = cost(matrix, round);
-    let n = narrow(round.len());
-    let h = shuffle(round, places, journal, state, held, Place(0), n);
-    let added = cost(matrix, round);
-    let l = activate_all(queue, flags, line, round);
-    Kicked {
-        held: h,
-        line: l,
-        added,
-        removed,
-    }
+    let before = work.track.round();
+    let removed = cost(matrix, before.stops);
+    let n = before.len() as u32;
+    shuffle(work.track, state, Place(0), n);
+    let after = work.track.round();
+    let added = cost(matrix, after.stops);
+    work.queue.push_all(after.stops);
+    Kicked { added, removed }
 }
 
 // The end of a global kick at 32 stops or more: 30 places are shuffled, and their stops and the two beside them wait.
-fn window_kick(
-    matrix: &[u16],
-    round: &mut [u32],
-    places: &mut [u32],
-    journal: &mut [u32],
-    queue: &mut [u32],
-    flags: &mut [u8],
-    state: &mut u64,
-    held: usize,
-    line: Line,
-) -> Kicked
-    requires { Ready matrix.now round.old places.old journal.old held 29 queue.old flags.old line.head line.count }
-    ensures { Kicks (window_drawn (leg_in (length round.old) matrix.now) state.old (track_of round.old journal.old held)) state.old 29 31 (waiting queue.old line.head line.count) line.head journal.old held round.new places.new journal.new result.held queue.new flags.new result.line.head result.line.count result.added result.removed state.new }
+fn window_kick(matrix: &Matrix, work: &mut Work, state: &mut u64) -> Kicked
+    requires ready { Ready 29 matrix.now work.old }
+    ensures same { SameWork work.old work.new }
+    ensures kicked { KicksOn (window_drawn (legs_in matrix.now) state.old (track_in work.old.track.now)) state.old 29 31 work.old work.new result state.new }
 {
-    let n = round.len();
+    let before = work.track.round();
+    let n = before.len();
     if n < 32 {
         return Kicked {
-            held,
-            line,
             added: 0,
             removed: 0,
         };
     }
-    let left = draw(state, 0, narrow(n - 30));
-    let first = prev(wide(left), n);
-    let removed = path_cost(matrix, round, first, 31);
-    let h = shuffle(round, places, journal, state, held, Place(left), 30);
-    let added = path_cost(matrix, round, first, 31);
-    let l = push_places(queue, flags, line, round, first, 32);
-    Kicked {
-        held: h,
-        line: l,
-        added,
-        removed,
-    }
+    let left = draw(state, 0, (n - 30) as u32);
+    let first = prev(left as usize, n);
+    let removed = path_cost(matrix, before.stops, first, 31);
+    shuffle(work.track, state, Place(left), 30);
+    let after = work.track.round();
+    let added = path_cost(matrix, after.stops, first, 31);
+    work.queue.push_places(after.stops, first, 32);
+    Kicked { added, removed }
 }
 
 // A global kick of 8 stops or more: A B C D becomes A D C B, then the window.
-fn bridge_kick(
-    matrix: &[u16],
-    round: &mut [u32],
-    places: &mut [u32],
-    scratch: &mut [u32],
-    journal: &mut [u32],
-    queue: &mut [u32],
-    flags: &mut [u8],
-    state: &mut u64,
-    held: usize,
-    line: Line,
-) -> Kicked
-    requires ready { Ready matrix.now round.old places.old journal.old held 30 queue.old flags.old line.head line.count }
-    requires scratch_len { length scratch.old ≡ length round.old }
-    requires in_bounds { 8 ≤ length round.old }
-    ensures { Kicks (global_drawn (leg_in (length round.old) matrix.now) state.old (track_of round.old journal.old held)) state.old 30 35 (waiting queue.old line.head line.count) line.head journal.old held round.new places.new journal.new result.held queue.new flags.new result.line.head result.line.count result.added result.removed state.new }
+fn bridge_kick(matrix: &Matrix, work: &mut Work, state: &mut u64) -> Kicked
+    requires ready { Ready 30 matrix.now work.old }
+    requires many { 8 ≤ length work.old.track.now.stops.now }
+    ensures same { SameWork work.old work.new }
+    ensures kicked { KicksOn (global_drawn (legs_in matrix.now) state.old (track_in work.old.track.now)) state.old 30 35 work.old work.new result state.new }
 {
-    let cut = draw_bridge(state, round.len());
-    let k = exchange(
-        matrix, round, places, scratch, journal, queue, flags, held, line, cut, true,
-    );
-    let w = window_kick(
-        matrix, round, places, journal, queue, flags, state, k.held, k.line,
-    );
-    let l = w.line;
+    let cut = draw_bridge(state, matrix.n);
+    let k = exchange(matrix, work, cut, true);
+    let w = window_kick(matrix, work, state);
     Kicked {
-        held: w.held,
-        line: l,
         added: k.added + w.added,
         removed: k.removed + w.removed,
     }
 }
 
 // The global kick.
-pub fn global_kick(
-    matrix: &[u16],
-    round: &mut [u32],
-    places: &mut [u32],
-    scratch: &mut [u32],
-    journal: &mut [u32],
-    queue: &mut [u32],
-    flags: &mut [u8],
-    state: &mut u64,
-    held: usize,
-    line: Line,
-) -> Kicked
-    requires ready { Ready matrix.now round.old places.old journal.old held 30 queue.old flags.old line.head line.count }
-    requires scratch_len { length scratch.old ≡ length round.old }
-    ensures { Kicks (global_drawn (leg_in (length round.old) matrix.now) state.old (track_of round.old journal.old held)) state.old 30 35 (waiting queue.old line.head line.count) line.head journal.old held round.new places.new journal.new result.held queue.new flags.new result.line.head result.line.count result.added result.removed state.new }
+pub fn global_kick(matrix: &Matrix, work: &mut Work, state: &mut u64) -> Kicked
+    requires ready { Ready 30 matrix.now work.old }
+    ensures same { SameWork work.old work.new }
+    ensures kicked { KicksOn (global_drawn (legs_in matrix.now) state.old (track_in work.old.track.now)) state.old 30 35 work.old work.new result state.new }
 {
-    if round.len() < 8 {
-        return shuffle_kick(
-            matrix, round, places, journal, queue, flags, state, held, line,
-        );
+    if matrix.n < 8 {
+        shuffle_kick(matrix, work, state)
+    } else {
+        bridge_kick(matrix, work, state)
     }
-    bridge_kick(
-        matrix, round, places, scratch, journal, queue, flags, state, held, line,
-    )
 }
 
 // A kick: 0 segments X Y Z, 1 segments X Z, 2 global.
-pub fn kick(
-    matrix: &[u16],
-    round: &mut [u32],
-    places: &mut [u32],
-    scratch: &mut [u32],
-    journal: &mut [u32],
-    queue: &mut [u32],
-    flags: &mut [u8],
-    state: &mut u64,
-    held: usize,
-    line: Line,
-    kind: u32,
-) -> Kicked
-    requires ready { Ready matrix.now round.old places.old journal.old held 30 queue.old flags.old line.head line.count }
-    requires scratch_len { length scratch.old ≡ length round.old }
+pub fn kick(matrix: &Matrix, work: &mut Work, state: &mut u64, kind: u32) -> Kicked
+    requires ready { Ready 30 matrix.now work.old }
     requires kind_bound { kind ≤ 2 }
-    ensures { Kicks (kick_of (leg_in (length round.old) matrix.now) kind state.old (track_of round.old journal.old held)) state.old 30 35 (waiting queue.old line.head line.count) line.head journal.old held round.new places.new journal.new result.held queue.new flags.new result.line.head result.line.count result.added result.removed state.new }
+    ensures same { SameWork work.old work.new }
+    ensures kicked { KicksOn (kick_of (legs_in matrix.now) kind state.old (track_in work.old.track.now)) state.old 30 35 work.old work.new result state.new }
 {
-    let n = round.len();
-    if kind_at(n, kind) == 2 {
-        return global_kick(
-            matrix, round, places, scratch, journal, queue, flags, state, held, line,
-        );
+    if kind_at(matrix.n, kind) == 2 {
+        return global_kick(matrix, work, state);
     }
-    let cut = draw_cut(state, n, kind);
-    exchange(
-        matrix, round, places, scratch, journal, queue, flags, held, line, cut, false,
-    )
+    let cut = draw_cut(state, matrix.n, kind);
+    exchange(matrix, work, cut, false)
 }
 
 // The signed change in time that a kick reports.

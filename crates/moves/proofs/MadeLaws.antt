@@ -1,12 +1,11 @@
 -- What is made of what the journal's functions promise: a move as the rewriting that it is, one move after another.
-use Prim.Native.Nat.{ℕ, ◌+◌, ◌*◌, ◌≤◌}
+use Prim.Native.Nat.{ℕ, ◌+◌, ◌≤◌}
 use mathlib.Core.Path.{◌≡◌, ap, ◌∙◌}
 use mathlib.Core.List.{List}
 use native.Mathlib.Omega.{arith}
-use lib.ListN.{length}
 use Rattle.rules.specs.Words.{Place, Round}
 use Rattle.rules.specs.Journal.{Track, track_of}
-use Rattle.journal.specs.Journalled.{Moved, Journalled}
+use Rattle.journal.specs.Journalled.{Moved}
 use Rattle.journal.proofs.GrewLaws.{grew_grew}
 use Rattle.moves.specs.Moves.{Made}
 
@@ -18,10 +17,6 @@ module _ {t : Track} {j : List ℕ} {held : ℕ} {r : Round} {ps : List Place} {
   -- the same move under another name, and with more allowed
   pub made_is : {most more : ℕ} {t' : Track} → t ≡ t' → most ≤ more → Made most t j held r ps j' held' → Made more t' j held r ps j' held'
   made_is e h m = record { is = m.is ∙ e; tied = m.tied; good = m.good; grew = m.grew; high = omega (arith, m.high) }
-
-  -- what it leaves of the room
-  pub made_room : {most free : ℕ} → Made most t j held r ps j' held' → length j' ≡ length j → 5 * (held + (most + free)) ≤ length j → Journalled (length r) j' held' free
-  made_room m e h = record { good = m.good; room = omega (arith, m.high, e) }
 
 -- one after the other
 pub made_made : {a b : ℕ} {t : Track} (f : Track → Track) {j j' j'' : List ℕ} {held held' held'' : ℕ} {r r' : Round} {ps ps' : List Place}

@@ -1,18 +1,23 @@
 -- What the moves ask and promise. Assumes nothing.
 use Rattle.std.specs.Prelude.{ℕ, zero, suc, ◌+◌, ◌≤◌, ◌<◌, ◌≡◌, true, List, length}
 use Rattle.rules.specs.Words.{Stop, Place, Round}
-use Rattle.rules.specs.Journal.{Track, Entry, good_journal, track_of, reversing}
+use Rattle.rules.specs.Journal.{Track as TrackOf, Entry, good_journal, track_of, reversing}
 use Rattle.rules.specs.Moves.{Case, two, flips, segment, inner, flip}
 use Rattle.rules.specs.SharedWords.{Tied}
 use Rattle.journal.specs.Journalled.{Grew}
+use Rattle.journal.specs.declared.track.Track.{Track}
 
 -- moves carried out and journalled: round and journal are the track t, at most `most` entries were added
-pub record Made (most : ℕ) (t : Track) (journal : List ℕ) (held : ℕ) (round : Round) (places : List Place) (journal' : List ℕ) (held' : ℕ) : Type 0 where
+pub record Made (most : ℕ) (t : TrackOf) (journal : List ℕ) (held : ℕ) (round : Round) (places : List Place) (journal' : List ℕ) (held' : ℕ) : Type 0 where
   pub is : track_of round journal' held' ≡ t
   pub tied : Tied round places
   pub good : good_journal (length round) journal' held' ≡ true
   pub grew : Grew journal held journal' held'
   pub high : held' ≤ held + most
+
+-- a was left as b: such moves carried out on the track that is lent
+abbrev pub MadeOn : ℕ → TrackOf → Track → Track → Type 0
+MadeOn most t a b = Made most t a.journal.now a.held b.stops.now b.places.now b.journal.now b.held
 
 -- the number that the code has for a case; 0 is no move
 unfoldable pub number_of : Case → ℕ

@@ -6,6 +6,7 @@ ghost use Rattle.moves.specs.Cuts.{Rising, IsWindow};
 #[derive(Clone, Copy)]
 pub struct Cuts(pub usize, pub usize, pub usize);
 
+// Puts three places in order. By comparisons: with a sum, less the least and the greatest, it is no plainer and may overflow.
 pub fn sorted(p: usize, q: usize, s: usize) -> Cuts
     ensures { Rising p q s result.0 result.1 result.2 }
 {
@@ -38,10 +39,7 @@ pub struct Spread {
 pub fn longest(a: usize, b: usize, c: usize) -> bool
     ensures { result ≡ leb b a && leb c a }
 {
-    if b <= a {
-        return c <= a;
-    }
-    false
+    b <= a && c <= a
 }
 
 // The two shorter of the three paths that cuts a, b and c leave of a ring of n. The longest stays: of equals the path over the ring's end,

@@ -1,13 +1,14 @@
 -- 1 to 4: sizes and lengths, test by test, and what they are where none fails.
-use Prim.Native.Nat.{ℕ, ◌*◌, ◌/◌, ◌<◌, ◌≤◌}
-use mathlib.Core.Path.{◌≡◌, refl, ◌∙◌}
+use Prim.Native.Nat.{ℕ, suc, ◌*◌, ◌/◌, ◌<◌, ◌≤◌}
+use mathlib.Core.Path.{◌≡◌, refl}
 use mathlib.Core.Logic.{◌≢◌}
 use mathlib.Core.Bool.{Bool, true, false, ◌&&◌}
 use mathlib.Core.List.{List, [], ◌∷◌}
 use native.Mathlib.Omega.{arith}
 use borrow.Author.Tests.{le-leb, lt-leb, leb-true, eq-eqb, ne_eqb, eqb-true}
 use lib.Dec.{leb, eqb}
-use Rattle.rules.specs.Lists.{when◌then◌else◌, every}
+use lib.ListN.{length}
+use Rattle.rules.specs.Lists.{when◌then◌else◌, at, every}
 use Rattle.rules.specs.Numbers.{◌or◌, verdict, within, good_sizes, long}
 use Rattle.laws.proofs.ChoiceLaws.{and-true, both_true}
 use Rattle.refusals.specs.Refusing.{size_checks, plan_long, length_checks}
@@ -82,16 +83,6 @@ module _ (n k ka cells near alpha : ℕ) where
   plan_left c h = simp (eq-eqb cells (n * n) c, eq-eqb near (n * k) h)
 
   module _ (lengths : List ℕ) (words : ℕ) where
-    -- by the numbers of the two checks
-    pub first_fails : (three four r : ℕ) → three ≡ (when plan_long n k ka cells near alpha && long n lengths then 0 else 3) → four ≡ (when leb 512 (words / 5) then 0 else 4)
-        → r ≡ (when eqb three 0 then four else three) → r ≡ verdict (length_checks n k ka cells near alpha lengths words)
-    unfolding verdict length_checks
-    first_fails three four r e f g = g ∙ go (plan_long n k ka cells near alpha && long n lengths) (leb 512 (words / 5)) e f
-      where
-        go : (a b : Bool) → three ≡ (when a then 0 else 3) → four ≡ (when b then 0 else 4) → (when eqb three 0 then four else three) ≡ (when a then (when b then 0 else 4) else 3)
-        go true b e f = rw e f
-        go false b e f = rw e refl
-
     pub record Long : Type 0 where
       pub cells_are : cells ≡ n * n
       pub near_are : near ≡ n * k
@@ -128,12 +119,25 @@ pub long_next : (n x : ℕ) (xs : List ℕ) (b : Bool) → x ≡ n → b ≡ lon
 unfolding long every
 long_next n x xs b h e = rw (eq-eqb x n h, every) e
 
--- 3, by the plan's lengths and the others
-pub both_hold : (a b : Bool) → a ≡ true → b ≡ true → ◌≡◌ {A = ℕ} 0 (when a && b then 0 else 3)
-both_hold a b e f = rw (e, f) refl
+pub long_each : (n : ℕ) (xs : List ℕ) → ((x : ℕ) → x < length xs → at xs x ≡ n) → true ≡ long n xs
+unfolding long every
+long_each n [] h = refl
+long_each n (y ∷ ys) h = long_next n y ys true (h 0 (omega arith)) (long_each n ys (λ x p. h (suc x) (omega (arith, p))))
 
-pub second_fails : (a b : Bool) → a ≡ true → b ≡ false → ◌≡◌ {A = ℕ} 3 (when a && b then 0 else 3)
-second_fails a b e f = rw (e, f) refl
+-- 3 and 4, by the tests of the lengths
+module _ (n k ka cells near alpha : ℕ) (lengths : List ℕ) (words : ℕ) where
+  pub plan_short : plan_long n k ka cells near alpha ≡ false → 3 ≡ verdict (length_checks n k ka cells near alpha lengths words)
+  unfolding verdict length_checks
+  plan_short e = rw e refl
 
-pub plan_fails : (a b : Bool) → a ≡ false → ◌≡◌ {A = ℕ} 3 (when a && b then 0 else 3)
-plan_fails a b e = rw e refl
+  pub some_short : plan_long n k ka cells near alpha ≡ true → long n lengths ≡ false → 3 ≡ verdict (length_checks n k ka cells near alpha lengths words)
+  unfolding verdict length_checks
+  some_short e f = rw (e, f) refl
+
+  pub room_short : plan_long n k ka cells near alpha ≡ true → long n lengths ≡ true → words / 5 < 512 → 4 ≡ verdict (length_checks n k ka cells near alpha lengths words)
+  unfolding verdict length_checks
+  room_short e f h = rw (e, f, lt-leb 512 (words / 5) h) refl
+
+  pub none_short : plan_long n k ka cells near alpha ≡ true → long n lengths ≡ true → 512 ≤ words / 5 → 0 ≡ verdict (length_checks n k ka cells near alpha lengths words)
+  unfolding verdict length_checks
+  none_short e f h = rw (e, f, le-leb 512 (words / 5) h) refl

@@ -1,3 +1,4 @@
 pub mod Lending
 pub mod Refusing
 pub mod Passed
+pub mod Lents

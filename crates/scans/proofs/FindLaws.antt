@@ -10,7 +10,10 @@ use lib.ListN.{length, drop}
 use Rattle.rules.specs.Words.{Stop, Time, Legs, Round}
 use Rattle.rules.specs.Lists.{at, keep_while}
 use Rattle.rules.specs.Ring.{succ, pred, ahead, beside}
+use Rattle.rules.specs.Plan.{list_in}
 use Rattle.rules.specs.Improve.{Trial, free3, free5, twos, sixths, trials}
+use Rattle.legs.specs.declared.plan.Plan.{Plan}
+use Rattle.laws.proofs.EntryLaws.{length_list}
 use Rattle.tries.specs.Picks.{Pick, pick, none, first_of, tried_two, tried_fifth, Chosen}
 use Rattle.tries.proofs.PickLaws.{part_gains, part_fails}
 use Rattle.tries.proofs.TryLaws.{two_tried, fifth_tried}
@@ -21,6 +24,10 @@ pub record Left (n : ℕ) (left whole : Pick) (i most case : ℕ) (gain : Time) 
   pub yet : Chosen n none case gain t3 t4 t5 t6
   pub within : i ≤ most
   pub finds : left ≡ whole
+
+-- a near list is as long as the plan says
+pub near_long : (p : Plan) (v : Stop) → v < p.matrix.n → length (list_in p.near.count p.near.entries.now v) ≡ p.near.count
+near_long p v h = length_list p.near.entries.now p.near.count p.near.n v p.near.listed (omega (arith, h, p.near_fits))
 
 is_true : (b x : Bool) → b ≡ x → b ≡ true → not x ≡ false
 is_true b true e f = refl

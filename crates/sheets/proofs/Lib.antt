@@ -2,4 +2,3 @@ pub mod EndLaws
 pub mod HeaderLaws
 pub mod ListLaws
 pub mod NumberLaws
-pub mod SizeLaws

@@ -1,137 +1,121 @@
--- The number of a sheet, from the tests in 01's order.
-use Prim.Native.Nat.{ℕ, zero, suc, ◌+◌, ◌*◌, ◌/◌, ◌≤◌, ◌<◌}
+-- The number of a sheet, from its tests in their order.
+use Prim.Native.Nat.{ℕ, ◌*◌, ◌/◌, ◌+◌, ◌≤◌, ◌<◌}
 use mathlib.Core.Path.{◌≡◌, refl, sym, ◌∙◌}
 use mathlib.Core.Bool.{Bool, true, false, ◌&&◌}
 use mathlib.Core.List.{List, [], ◌∷◌}
 use native.Mathlib.Omega.{arith}
-use borrow.Author.Tests.{le-leb, lt-leb, eqb-true}
+use borrow.Author.Tests.{le-leb, lt-leb, leb-true, eqb-true}
 use lib.Dec.{leb, eqb}
 use lib.ListN.{length}
+use Rattle.numbers.specs.declared.Refusal.{Refusal}
+use Rattle.numbers.specs.declared.Refusal.TheVariants.{Size, Setting, Length, Room, Asymmetric, Entry, State, Full, Header as Heading, End}
+use Rattle.numbers.specs.Numbers.{refusal_number}
 use Rattle.rules.specs.Bits.{bits_of}
-use Rattle.rules.specs.Numbers.{◌or◌, verdict, within}
+use Rattle.rules.specs.Numbers.{◌or◌, verdict, within, good_sizes, good_step}
 use Rattle.rules.specs.Sheets.{Header, header_in, end_at, sheet_length, answer_length, sheet_checks}
 use Rattle.laws.proofs.ChoiceLaws.{and-true}
-use Rattle.sheets.specs.Sheet.{first_of, head_checks, good_told, good_end, good_lists, Narrow, Sizes, Ready}
+use Rattle.sheets.specs.Sheet.{head_checks, good_told, good_end, good_lists, Narrow, Sizes, Ready}
 use Rattle.sheets.proofs.HeaderLaws.{header_narrow}
-use Rattle.sheets.proofs.SizeLaws.{head_low_high, told_in}
 
--- ---- numbers
-pub number_good : (m : ℕ) (good : Bool) → good ≡ true → 0 ≡ verdict ((good or m) ∷ [])
+-- a refusal has a number
+refused : (r : Refusal) → refusal_number r ≡ 0 → ⊥
+refused Size e = omega arith
+refused Setting e = omega arith
+refused Length e = omega arith
+refused Room e = omega arith
+refused Asymmetric e = omega arith
+refused Entry e = omega arith
+refused State e = omega arith
+refused Full e = omega arith
+refused Heading e = omega arith
+refused End e = omega arith
+
+-- the first test of two fails, or the second
+two : (a b : Bool) (l : List _) (m : ℕ) → m ≡ verdict ((a or 9) ∷ (b or 1) ∷ []) → (m ≡ 0 → ⊥) → m ≡ verdict ((a or 9) ∷ (b or 1) ∷ l)
 unfolding verdict
-number_good m good e = rw e
+two true true l m e z = absurd (z e)
+two true false l m e z = e
+two false b l m e z = e
 
-pub number_bad : (m : ℕ) (good : Bool) → good ≡ false → m ≡ verdict ((good or m) ∷ [])
+both : (a b : Bool) → 0 ≡ verdict ((a or 9) ∷ (b or 1) ∷ []) → (a ≡ true) × (b ≡ true)
 unfolding verdict
-number_bad m good e = rw e
+both true true e = (refl, refl)
+both true false e = absurd (omega arith)
+both false b e = absurd (omega arith)
 
-pub first_one : (one next : ℕ) → (one ≡ 0 → ⊥) → one ≡ first_of one next
-unfolding first_of
-first_one zero next z = absurd (z refl)
-first_one (suc k) next z = refl
+module _ (s : List ℕ) where
+  abbrev head : Header
+  head = header_in (bits_of s)
 
-pub first_next : (one next : ℕ) → one ≡ 0 → next ≡ first_of one next
-unfolding first_of
-first_next one next e = rw e
+  module _ (room : ℕ) where
+    pub number_short : length s < 16 → 9 ≡ verdict (sheet_checks s room)
+    unfolding sheet_checks verdict
+    number_short l = rw (lt-leb 16 (length s) l)
 
--- both are 0
-first_zero : (one next : ℕ) → 0 ≡ first_of one next → (0 ≡ one) × (0 ≡ next)
-unfolding first_of
-first_zero zero next e = (refl, e)
-first_zero (suc k) next e = absurd (omega arith)
+    module _ (l : 16 ≤ length s) where
+      pub number_head : (r : Refusal) → refusal_number r ≡ verdict (head_checks head) → refusal_number r ≡ verdict (sheet_checks s room)
+      unfolding sheet_checks head_checks
+      number_head r e = rw (le-leb 16 (length s) l) (two (eqb head.version 1 && eqb head.spare 0) (within 2 128 head.n) _ (refusal_number r) e (refused r))
 
-passed : (good : Bool) (m : ℕ) → 0 ≡ verdict ((good or suc m) ∷ []) → good ≡ true
-unfolding verdict
-passed true m e = refl
-passed false m e = absurd (omega arith)
+      module _ (f : 0 ≡ verdict (head_checks head)) where
+        told : (eqb head.version 1 && eqb head.spare 0) ≡ true
+        unfolding head_checks
+        told = (both _ (within 2 128 head.n) f).0
 
--- ---- 2 and 10, then 4 and 6
-abbrev told : Header → ℕ
-told h = verdict ((good_told h or 2) ∷ [])
+        size : within 2 128 head.n ≡ true
+        unfolding head_checks
+        size = (both (eqb head.version 1 && eqb head.spare 0) _ f).1
 
-abbrev ends : Header → List ℕ → ℕ
-ends h s = verdict ((good_end h s or 10) ∷ [])
+        -- the tests that are left
+        rest : verdict (sheet_checks s room) ≡ verdict ((good_told head or 2) ∷ (good_end head s or 10) ∷ (leb (answer_length head.n) room or 4) ∷ (good_lists head s or 6) ∷ [])
+        unfolding sheet_checks verdict good_told good_end good_lists
+        rest = rw (le-leb 16 (length s) l, told, size)
 
-abbrev room_number : Header → ℕ → ℕ
-room_number h room = verdict ((leb (answer_length h.n) room or 4) ∷ [])
-
-abbrev lists : Header → List ℕ → ℕ
-lists h s = verdict ((good_lists h s or 6) ∷ [])
-
-six : (a b c d e f : Bool) →
-    verdict ((a or 9) ∷ (b or 1) ∷ (c or 2) ∷ (d or 10) ∷ (e or 4) ∷ (f or 6) ∷ []) ≡
-    first_of (verdict ((a or 9) ∷ (b or 1) ∷ [])) (first_of (first_of (verdict ((c or 2) ∷ [])) (verdict ((d or 10) ∷ []))) (first_of (verdict ((e or 4) ∷ [])) (verdict ((f or 6) ∷ []))))
-unfolding first_of verdict
-six false b c d e f = refl
-six true false c d e f = refl
-six true true false d e f = refl
-six true true true false e f = refl
-six true true true true false f = refl
-six true true true true true f = refl
-
--- the first of 2 and 10, from the tests
-pub next_is : (h : Header) (s : List ℕ) (a b : Bool) (x y m : ℕ) → a ≡ good_told h → b ≡ good_end h s → x ≡ verdict ((a or 2) ∷ []) → y ≡ verdict ((b or 10) ∷ []) → m ≡ first_of x y → m ≡ first_of (told h) (ends h s)
-next_is h s a b x y m e f p q g = rw (← e, ← f, ← p, ← q) g
-
--- 6, from its test
-pub lists_are : (h : Header) (s : List ℕ) (a : Bool) (m : ℕ) → a ≡ good_lists h s → m ≡ verdict ((a or 6) ∷ []) → m ≡ lists h s
-lists_are h s a m e g = rw (← e) g
-
-module _ (s : List ℕ) (room : ℕ) where
-  pub number_short : length s < 16 → 9 ≡ verdict (sheet_checks s room)
-  unfolding sheet_checks verdict
-  number_short l = rw (lt-leb 16 (length s) l)
-
-  module _ (l : 16 ≤ length s) where
-    split_head :
-        let h = header_in (bits_of s) in
-        verdict (sheet_checks s room) ≡ first_of (verdict (head_checks h)) (first_of (first_of (told h) (ends h s)) (first_of (room_number h room) (lists h s)))
-    unfolding sheet_checks head_checks good_told good_end good_lists
-    split_head =
-        let h = header_in (bits_of s) in
-        rw (le-leb 16 (length s) l) (six (eqb h.version 1 && eqb h.spare 0) (within 2 128 h.n) (good_told h) (good_end h s) (leb (answer_length h.n) room) (good_lists h s))
-
-    module _ (h : Header) (e : h ≡ header_in (bits_of s)) where
-      split : verdict (sheet_checks s room) ≡ first_of (verdict (head_checks h)) (first_of (first_of (told h) (ends h s)) (first_of (room_number h room) (lists h s)))
-      split = rw e split_head
-
-      pub number_head : (m : ℕ) → m ≡ verdict (head_checks h) → (m ≡ 0 → ⊥) → m ≡ verdict (sheet_checks s room)
-      number_head m f z = f ∙ first_one (verdict (head_checks h)) (first_of (first_of (told h) (ends h s)) (first_of (room_number h room) (lists h s))) (λ y. z (f ∙ y)) ∙ sym split
-
-      module _ (f : 0 ≡ verdict (head_checks h)) where
-        pub narrow : Narrow h
+        pub narrow : Narrow head
+        unfolding within
         narrow =
-            let a = head_low_high h f in
-            let b : (h.k < 32) × (h.ka < 8) = rw e (header_narrow s l) in
-            record { low = a.0; high = a.1; near = omega (arith, b.0); alpha = omega (arith, b.1) }
+            let a = and-true (leb 2 head.n) (leb head.n 128) size in
+            let b = header_narrow s l in
+            record { low = leb-true 2 head.n a.0; high = leb-true head.n 128 a.1; near = omega (arith, b.0); alpha = omega (arith, b.1) }
 
-        rest : verdict (sheet_checks s room) ≡ first_of (first_of (told h) (ends h s)) (first_of (room_number h room) (lists h s))
-        rest = split ∙ sym (first_next (verdict (head_checks h)) (first_of (first_of (told h) (ends h s)) (first_of (room_number h room) (lists h s))) (sym f))
+        pub number_told : good_told head ≡ false → 2 ≡ verdict (sheet_checks s room)
+        unfolding verdict
+        number_told t = sym (rest ∙ (rw t))
 
-        pub number_next : (m : ℕ) → m ≡ first_of (told h) (ends h s) → (m ≡ 0 → ⊥) → m ≡ verdict (sheet_checks s room)
-        number_next m g z = g ∙ first_one (first_of (told h) (ends h s)) (first_of (room_number h room) (lists h s)) (λ y. z (g ∙ y)) ∙ sym rest
+        module _ (t : good_told head ≡ true) where
+          pub number_end : good_end head s ≡ false → 10 ≡ verdict (sheet_checks s room)
+          unfolding verdict
+          number_end g = sym (rest ∙ (rw (t, g)))
 
-        module _ (g : 0 ≡ first_of (told h) (ends h s)) where
-          pub sizes : Sizes h
-          sizes = told_in h f (passed (good_told h) 1 (first_zero (told h) (ends h s) g).0)
+          pub sizes : Sizes head
+          unfolding good_told good_sizes within
+          sizes =
+              let a = and-true (good_sizes head.k head.ka && good_step head.ka head.step) (leb 1 head.seed) t in
+              let b = and-true (good_sizes head.k head.ka) (good_step head.ka head.step) a.0 in
+              let c = and-true (leb 1 head.k && leb head.k 20) (leb head.ka 5) b.0 in
+              let d = and-true (leb 1 head.k) (leb head.k 20) c.0 in
+              record { low = narrow.low; high = narrow.high; near = leb-true head.k 20 d.1; alpha = leb-true head.ka 5 c.1 }
 
-          pub end_room : end_at h ≤ 8 * length s
-          unfolding good_end sheet_length
-          end_room =
-              let x : good_end h s ≡ true = passed (good_end h s) 9 (first_zero (told h) (ends h s) g).1 in
-              omega (arith, eqb-true (length s) ((end_at h + 7) / 8) (and-true (eqb (length s) ((end_at h + 7) / 8)) _ x).0)
+          module _ (g : good_end head s ≡ true) where
+            pub whole : end_at head ≤ 8 * length s
+            unfolding good_end sheet_length
+            whole = omega (arith, eqb-true (length s) ((end_at head + 7) / 8) (and-true (eqb (length s) ((end_at head + 7) / 8)) _ g).0)
 
-          last : verdict (sheet_checks s room) ≡ first_of (room_number h room) (lists h s)
-          last = rest ∙ sym (first_next (first_of (told h) (ends h s)) (first_of (room_number h room) (lists h s)) (sym g))
+            pub number_room : room < answer_length head.n → 4 ≡ verdict (sheet_checks s room)
+            unfolding verdict
+            number_room r = sym (rest ∙ (rw (t, g, lt-leb (answer_length head.n) room r)))
 
-          pub number_room : room < 16 + (12 * h.n + 7) / 8 → 4 ≡ verdict (sheet_checks s room)
-          unfolding answer_length verdict first_of
-          number_room r = sym (last ∙ (rw (lt-leb (16 + (12 * h.n + 7) / 8) room r)))
+            module _ (r : answer_length head.n ≤ room) where
+              pub number_lists : good_lists head s ≡ false → 6 ≡ verdict (sheet_checks s room)
+              unfolding verdict
+              number_lists x = sym (rest ∙ (rw (t, g, le-leb (answer_length head.n) room r, x)))
 
-          module _ (r : 16 + (12 * h.n + 7) / 8 ≤ room) where
-            pub number_lists : (m : ℕ) → m ≡ lists h s → m ≡ verdict (sheet_checks s room)
-            unfolding answer_length verdict first_of
-            number_lists m x = x ∙ sym (last ∙ (rw (le-leb (16 + (12 * h.n + 7) / 8) room r)))
+              pub number_none : good_lists head s ≡ true → 0 ≡ verdict (sheet_checks s room)
+              unfolding verdict
+              number_none x = sym (rest ∙ (rw (t, g, le-leb (answer_length head.n) room r, x)))
 
-            pub ready : Ready (header_in (bits_of s)) s room
-            unfolding answer_length
-            ready = rw (← e) (record { sizes = sizes; long = l; ends = end_room; answer = r })
+              pub ready : Ready head s room
+              ready = record { sizes = sizes; long = l; ends = whole; answer = r }
+
+-- all that a sheet's check takes
+pub ruleset sheet_numbers = (number_short, number_head, narrow, number_told, number_end, sizes, whole, number_room, number_lists, number_none, ready)

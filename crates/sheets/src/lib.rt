@@ -1,9 +1,9 @@
-// 01, "Sheets": the input sheet's header and its number.
+// 01, "Sheets": the input sheet, its header and its refusals.
 
 #![tactic(auto)]
 
 pub mod ends;
 pub mod header;
 pub mod lists;
-pub mod number;
+pub mod sheet;
 pub mod sizes;

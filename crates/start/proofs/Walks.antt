@@ -3,7 +3,7 @@ use Prim.Native.Nat.{ℕ, zero, suc, ◌+◌, ◌-◌, ◌*◌, ◌≤◌, ◌<�
 use mathlib.Core.Path.{◌≡◌, refl, sym, ap, ◌∙◌}
 use mathlib.Core.Bool.{Bool, true, false}
 use mathlib.Core.List.{List, [], ◌∷◌, ◌++◌, append_assoc, append-nil}
-use mathlib.Core.Logic.{◌⊎◌, inl, inr, ◌≢◌}
+use mathlib.Core.Logic.{◌≢◌}
 use native.Mathlib.Omega.{arith}
 use native.Mathlib.Numerals.{add-one}
 use native.Mathlib.Decide.{ℕ_discrete}
@@ -16,7 +16,7 @@ use Rattle.rules.specs.Lists.{at, rising}
 use Rattle.rules.specs.Plan.{leg_in}
 use Rattle.rules.specs.Start.{start_from, start_round}
 use Rattle.rules.specs.SharedWords.{Square}
-use Rattle.laws.proofs.CellLaws.{row_within, cells_few}
+use Rattle.laws.proofs.CellLaws.{row_within}
 use Rattle.laws.proofs.RisingLaws.{rising_length}
 use Rattle.laws.proofs.StartLaws.{passing, passing_no, all_pass, start_on, passing_without, passing_fewer, some_passes}
 use Rattle.start.specs.Mask.{Mask, Left, Blank}
@@ -48,9 +48,9 @@ module _ (mask : List ℕ) (k : Stop) (inside : k < length mask) where
   mask_set : {n : ℕ} → Mask n mask → Mask n (marked mask k)
   mask_set {n} m = record { few = m.few; room = omega (arith, m.room, length-set mask k 65535); flag = λ v l. go v l (ℕ_discrete v k) }
     where
-      go : (v : Stop) → v < n → Dec (v ≡ k) → (at (marked mask k) v ≡ 0) ⊎ (at (marked mask k) v ≡ 65535)
-      go v l (yes e) = inr (ap (at (marked mask k)) e ∙ get_or-set_same mask k 65535 0 inside)
-      go v l (no e) = rw (get_or-set_other mask k v 65535 0 e) (m.flag v l)
+      go : (v : Stop) → v < n → Dec (v ≡ k) → (at (marked mask k) v ≡ 0 → ⊥) → at (marked mask k) v ≡ 65535
+      go v l (yes e) z = ap (at (marked mask k)) e ∙ get_or-set_same mask k 65535 0 inside
+      go v l (no e) z = let q = get_or-set_other mask k v 65535 0 e in q ∙ m.flag v l (λ y. z (q ∙ y))
 
 -- the mask as it is made
 pub blank : (n : ℕ) → n ≤ 4096 → Blank n (replicate 4096 0)
@@ -78,7 +78,7 @@ module _ (matrix : List Time) (n : ℕ) (mask : List ℕ) (round : Round) (few :
   unfolding start_round
   begun =
       record {
-        masks = mask_set mask 0 inside (record { few = few; room = b.room; flag = λ v l. inl (b.zeros v) });
+        masks = mask_set mask 0 inside (record { few = few; room = b.room; flag = λ v l z. absurd (z (b.zeros v)) });
         long = length-set round 0 0 ∙ long;
         below = some;
         count = omega (arith, ap length all, rising_length (n - 1) 1);
@@ -100,9 +100,6 @@ module _ {matrix : List Time} {n : ℕ} {mask : List ℕ} {round : Round} {last 
   pub row_ends : a * n + n ≤ length matrix
   row_ends = omega (arith, sq.cells, row_within n n a (omega (arith, w.below)))
 
-  pub row_small : a * n + n ≤ 16777216
-  row_small = omega (arith, row_ends, sq.cells, cells_few n n sq.few sq.few)
-
   pub row_long : length (row_at matrix n (a * n)) ≡ n
   row_long = simp (length-take, length-drop) (omega (arith, row_ends))
 
@@ -111,9 +108,6 @@ module _ {matrix : List Time} {n : ℕ} {mask : List ℕ} {round : Round} {last 
   row_at_lem v h =
       let l : v < a * n + n - a * n = omega arith in
       get_or-take (a * n + n - a * n) (drop (a * n) matrix) v 0 l ∙ get_or-drop (a * n) matrix v 0 ∙ ap (λ (u : Stop). at matrix (u * n + v)) e
-
-  pub walking_mask : Mask (length (row_at matrix n (a * n))) mask
-  walking_mask = rw row_long w.masks
 
   pub walking_left : i < n → Left (length (row_at matrix n (a * n))) mask
   walking_left l =

@@ -1,5 +1,5 @@
 -- The mask: 65535 at the stops that were visited, 0 at those that are left. Assumes nothing.
-use Rattle.std.specs.Prelude.{ℕ, ◌≤◌, ◌<◌, ◌≡◌, List, ◌⊎◌, length}
+use Rattle.std.specs.Prelude.{ℕ, ◌≤◌, ◌<◌, ◌≡◌, List, length}
 use Rattle.std.specs.Int.Bits.{bit_or}
 use Rattle.rules.specs.Words.{Stop, Time}
 use Rattle.rules.specs.Lists.{at}
@@ -8,7 +8,7 @@ use Rattle.rules.specs.Lists.{at}
 pub record Mask (n : ℕ) (mask : List ℕ) : Type 0 where
   pub few : n ≤ 4096
   pub room : n ≤ length mask
-  pub flag : (v : Stop) → v < n → (at mask v ≡ 0) ⊎ (at mask v ≡ 65535)
+  pub flag : (v : Stop) → v < n → (at mask v ≡ 0 → ⊥) → at mask v ≡ 65535
 
 -- a stop is left
 pub record Left (n : ℕ) (mask : List ℕ) : Type 0 where

@@ -17,9 +17,10 @@ pub record Hit (f : Stop → Time) (i e x : ℕ) : Type 0 where
   pub high : stop < e
   pub is : f stop ≡ x
 
--- x is the least of f from i on and before e, and 65535 where none is less
+-- x is the least of f from i on and before e, and 65535 where none is less; f has 16 bits there
 pub record Lowest (f : Stop → Time) (i e x : ℕ) : Type 0 where
   pub top : x ≤ 65535
+  pub short : (v : Stop) → i ≤ v → v < e → f v ≤ 65535
   pub least : (v : Stop) → i ≤ v → v < e → x ≤ f v
   pub hit : x < 65535 → Hit f i e x
 

@@ -2,31 +2,23 @@
 
 #![tactic(auto)]
 
-ghost use Rattle.std.specs.Prelude.{◌≡◌, ℕ, ◌<◌, length};
-ghost use Rattle.rules.specs.SharedWords.{Tied};
-ghost use Rattle.journal.specs.Journalled.{Journalled};
+ghost use Rattle.std.specs.Prelude.{◌≡◌, ℕ, ◌+◌, ◌*◌, ◌<◌, ◌≤◌, length};
+ghost use Rattle.journal.specs.Tracks.{SameTrack};
 
-use journal::{reverse, rollback};
+use journal::track::Track;
 use legs::Place;
 
-pub fn there_and_back(
-    round: &mut [u32],
-    places: &mut [u32],
-    scratch: &mut [u32],
-    journal: &mut [u32],
-    held: usize,
-    start: Place,
-    end: Place,
-) -> usize
-    requires tied { Tied round.old places.old }
-    requires start_in_bounds { start.0 < length round.old }
-    requires end_in_bounds { end.0 < length round.old }
-    requires scratch_len { length scratch.old ≡ length round.old }
-    requires journalled { Journalled (length round.old) journal.old held 1 }
-    ensures round_unchanged { round.new ≡ round.old }
-    ensures places_unchanged { places.new ≡ places.old }
-    ensures value { result ≡ held }
+pub fn there_and_back(track: &mut Track, scratch: &mut [u32], start: Place, end: Place)
+    requires start_low { start.0 < length track.old.stops.now }
+    requires end_low { end.0 < length track.old.stops.now }
+    requires scratch_fits { length scratch.old ≡ length track.old.stops.now }
+    requires room { 5 * (track.old.held + 1) ≤ length track.old.journal.now }
+    ensures same { SameTrack track.old track.new }
+    ensures round_unchanged { track.new.stops.now ≡ track.old.stops.now }
+    ensures places_unchanged { track.new.places.now ≡ track.old.places.now }
+    ensures held_unchanged { track.new.held ≡ track.old.held }
 {
-    let made = reverse(round, places, journal, held, start, end);
-    rollback(round, places, scratch, journal, made, held)
+    let held = track.held;
+    track.reverse(start, end);
+    track.rollback(scratch, held);
 }

@@ -3,8 +3,10 @@ use Rattle.std.specs.Prelude.{ℕ, ◌-◌, ◌<◌, ◌≡◌, Bool, true, fals
 use Rattle.rules.specs.Words.{Stop, Time, Legs, Round}
 use Rattle.rules.specs.Lists.{keep_while}
 use Rattle.rules.specs.Improve.{Trial, twos, sixths}
-use Rattle.rules.specs.SharedWords.{Square}
+use Rattle.rules.specs.Plan.{leg_in}
+use Rattle.legs.specs.declared.plan.Plan.{Plan}
 use Rattle.moves.specs.Moves.{number_of}
+use Rattle.moves.specs.declared.moves.Move.{Move}
 
 -- the number of its case, its gain, t3 to t6
 pub data Pick : Type 0 where
@@ -43,9 +45,16 @@ pub record Chosen (n : ℕ) (p : Pick) (case : ℕ) (gain : Time) (t3 t4 t5 t6 :
   pub low5 : t5 < n
   pub low6 : t6 < n
 
--- what the tries are handed: a matrix, and stops of n
-pub record Tries (matrix : List Time) (n : ℕ) (t1 t2 t3 t4 t5 : Stop) : Type 0 where
-  pub square : Square matrix n
+-- the same of the move that is there
+abbrev pub ChosenMove : ℕ → Pick → Move → Type 0
+ChosenMove n p m = Chosen n p m.case m.gain m.t3.0 m.t4.0 m.t5.0 m.t6.0
+
+-- the legs of the plan that is lent
+abbrev pub legs_in : Plan → Legs
+legs_in p = leg_in p.matrix.n p.matrix.times.now
+
+-- what the tries are handed: stops of n
+pub record Tries (n : ℕ) (t1 t2 t3 t4 t5 : Stop) : Type 0 where
   pub low1 : t1 < n
   pub low2 : t2 < n
   pub low3 : t3 < n

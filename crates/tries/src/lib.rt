@@ -2,18 +2,16 @@
 
 #![tactic(auto)]
 
-ghost use Rattle.std.specs.Prelude.{◌≡◌, true, false, ℕ, ◌+◌, ◌-◌, ◌<◌, ◌≤◌, length};
-ghost use Rattle.rules.specs.Plan.{leg_in};
-ghost use Rattle.rules.specs.SharedWords.{Tied, Square};
-ghost use Rattle.tries.specs.Picks.{none, tried_two, tried_fifth, Chosen, Tries};
+ghost use Rattle.std.specs.Prelude.{◌≡◌, true, false, ℕ, ◌-◌, ◌<◌, ◌≤◌, length};
+ghost use Rattle.tries.specs.Picks.{none, tried_two, tried_fifth, ChosenMove, legs_in, Tries};
 
-use legs::{Stop, dist};
-use moves::entries::same;
+use legs::Stop;
+use legs::plan::Plan;
 use moves::moves::Move;
-use ring::stops::{ahead, behind, beside, between_dir};
+use ring::round::Round;
 
 pub fn no_move() -> Move
-    ensures { (n : ℕ) → 0 < n → Chosen n none result.case result.gain result.t3.0 result.t4.0 result.t5.0 result.t6.0 }
+    ensures { (n : ℕ) → 0 < n → ChosenMove n none result }
 {
     Move {
         case: 0,
@@ -26,28 +24,23 @@ pub fn no_move() -> Move
 }
 
 // What is left of the gain g once the leg t6-t1 comes; 0 where it is no gain.
-pub fn closed(matrix: &[u16], n: usize, g: u32, t6: Stop, t1: Stop) -> u32
-    requires square { Square matrix.now n }
-    requires t6_lt_n { t6.0 < n }
-    requires t1_lt_n { t1.0 < n }
-    ensures { result ≡ g - leg_in n matrix.now t6.0 t1.0 }
+pub fn closed(plan: &Plan, g: u32, t6: Stop, t1: Stop) -> u32
+    requires t6_low { t6.0 < plan.now.matrix.n }
+    requires t1_low { t1.0 < plan.now.matrix.n }
+    ensures { result ≡ g - legs_in plan.now t6.0 t1.0 }
 {
-    let d61 = dist(matrix, n, t6, t1);
-    if d61 < g {
-        return g - d61;
-    }
-    0
+    g.saturating_sub(plan.dist(t6, t1))
 }
 
 // The 2-opt move, where t4 is before t3.
-pub fn try_two(matrix: &[u16], n: usize, after: bool, g2: u32, t1: Stop, t3: Stop, t4: Stop) -> Move
-    requires { Tries matrix.now n t1.0 t3.0 t3.0 t4.0 t4.0 }
-    ensures { Chosen n (tried_two (leg_in n matrix.now) after t1.0 t3.0 t4.0 g2) result.case result.gain result.t3.0 result.t4.0 result.t5.0 result.t6.0 }
+pub fn try_two(plan: &Plan, after: bool, g2: u32, t1: Stop, t3: Stop, t4: Stop) -> Move
+    requires tries { Tries plan.now.matrix.n t1.0 t3.0 t3.0 t4.0 t4.0 }
+    ensures { ChosenMove plan.now.matrix.n (tried_two (legs_in plan.now) after t1.0 t3.0 t4.0 g2) result }
 {
     if after {
         return no_move();
     }
-    let gain = closed(matrix, n, g2, t4, t1);
+    let gain = closed(plan, g2, t4, t1);
     if 0 < gain {
         return Move {
             case: 1,
@@ -63,9 +56,8 @@ pub fn try_two(matrix: &[u16], n: usize, after: bool, g2: u32, t1: Stop, t3: Sto
 
 // t4 before t3: t6 is ahead of t5 where that lies between t2 and t4, else behind it.
 pub fn try_before(
-    matrix: &[u16],
-    round: &[u32],
-    places: &[u32],
+    plan: &Plan,
+    round: &Round,
     fwd: bool,
     g3: u32,
     t1: Stop,
@@ -74,16 +66,15 @@ pub fn try_before(
     t4: Stop,
     t5: Stop,
 ) -> Move
-    requires tied { Tied round.now places.now }
-    requires tries { Tries matrix.now (length round.now) t1.0 t2.0 t3.0 t4.0 t5.0 }
+    requires size { plan.now.matrix.n ≡ length round.now.stops.now }
+    requires tries { Tries plan.now.matrix.n t1.0 t2.0 t3.0 t4.0 t5.0 }
     requires g3_bound { g3 ≤ 131070 }
-    ensures { Chosen (length round.now) (tried_fifth (leg_in (length round.now) matrix.now) fwd round.now false t1.0 t2.0 t3.0 t4.0 t5.0 g3) result.case result.gain result.t3.0 result.t4.0 result.t5.0 result.t6.0 }
+    ensures { ChosenMove plan.now.matrix.n (tried_fifth (legs_in plan.now) fwd round.now.stops.now false t1.0 t2.0 t3.0 t4.0 t5.0 g3) result }
 {
-    let n = round.len();
-    let inside = between_dir(round, places, fwd, t2, t5, t4);
-    let t6 = beside(round, places, fwd, inside, t5);
-    let open = g3 + dist(matrix, n, t5, t6);
-    let gain = closed(matrix, n, open, t6, t1);
+    let inside = round.between_dir(fwd, t2, t5, t4);
+    let t6 = round.beside(fwd, inside, t5);
+    let open = g3 + plan.dist(t5, t6);
+    let gain = closed(plan, open, t6, t1);
     if 0 < gain {
         return Move {
             case: 2,
@@ -99,9 +90,8 @@ pub fn try_before(
 
 // t4 after t3: only a t5 between t2 and t3; t6 is ahead of it, then behind it.
 pub fn try_after(
-    matrix: &[u16],
-    round: &[u32],
-    places: &[u32],
+    plan: &Plan,
+    round: &Round,
     fwd: bool,
     g3: u32,
     t1: Stop,
@@ -110,19 +100,18 @@ pub fn try_after(
     t4: Stop,
     t5: Stop,
 ) -> Move
-    requires tied { Tied round.now places.now }
-    requires tries { Tries matrix.now (length round.now) t1.0 t2.0 t3.0 t4.0 t5.0 }
+    requires size { plan.now.matrix.n ≡ length round.now.stops.now }
+    requires tries { Tries plan.now.matrix.n t1.0 t2.0 t3.0 t4.0 t5.0 }
     requires g3_bound { g3 ≤ 131070 }
-    ensures { Chosen (length round.now) (tried_fifth (leg_in (length round.now) matrix.now) fwd round.now true t1.0 t2.0 t3.0 t4.0 t5.0 g3) result.case result.gain result.t3.0 result.t4.0 result.t5.0 result.t6.0 }
+    ensures { ChosenMove plan.now.matrix.n (tried_fifth (legs_in plan.now) fwd round.now.stops.now true t1.0 t2.0 t3.0 t4.0 t5.0 g3) result }
 {
-    let n = round.len();
-    let inside = between_dir(round, places, fwd, t2, t5, t3);
+    let inside = round.between_dir(fwd, t2, t5, t3);
     if !inside {
         return no_move();
     }
-    let next = ahead(round, places, fwd, t5);
-    let open = g3 + dist(matrix, n, t5, next);
-    let gain = closed(matrix, n, open, next, t1);
+    let next = round.ahead(fwd, t5);
+    let open = g3 + plan.dist(t5, next);
+    let gain = closed(plan, open, next, t1);
     if 0 < gain {
         return Move {
             case: 3,
@@ -133,13 +122,12 @@ pub fn try_after(
             t6: next,
         };
     }
-    let whole = same(t5, t2);
-    if whole {
+    if t5 == t2 {
         return no_move();
     }
-    let last = behind(round, places, fwd, t5);
-    let other = g3 + dist(matrix, n, t5, last);
-    let more = closed(matrix, n, other, last, t1);
+    let last = round.behind(fwd, t5);
+    let other = g3 + plan.dist(t5, last);
+    let more = closed(plan, other, last, t1);
     if 0 < more {
         return Move {
             case: 4,
@@ -155,9 +143,8 @@ pub fn try_after(
 
 // The 3-opt moves of a t5.
 pub fn try_fifth(
-    matrix: &[u16],
-    round: &[u32],
-    places: &[u32],
+    plan: &Plan,
+    round: &Round,
     fwd: bool,
     after: bool,
     g3: u32,
@@ -167,13 +154,14 @@ pub fn try_fifth(
     t4: Stop,
     t5: Stop,
 ) -> Move
-    requires tied { Tied round.now places.now }
-    requires tries { Tries matrix.now (length round.now) t1.0 t2.0 t3.0 t4.0 t5.0 }
+    requires size { plan.now.matrix.n ≡ length round.now.stops.now }
+    requires tries { Tries plan.now.matrix.n t1.0 t2.0 t3.0 t4.0 t5.0 }
     requires g3_bound { g3 ≤ 131070 }
-    ensures { Chosen (length round.now) (tried_fifth (leg_in (length round.now) matrix.now) fwd round.now after t1.0 t2.0 t3.0 t4.0 t5.0 g3) result.case result.gain result.t3.0 result.t4.0 result.t5.0 result.t6.0 }
+    ensures { ChosenMove plan.now.matrix.n (tried_fifth (legs_in plan.now) fwd round.now.stops.now after t1.0 t2.0 t3.0 t4.0 t5.0 g3) result }
 {
     if after {
-        return try_after(matrix, round, places, fwd, g3, t1, t2, t3, t4, t5);
+        try_after(plan, round, fwd, g3, t1, t2, t3, t4, t5)
+    } else {
+        try_before(plan, round, fwd, g3, t1, t2, t3, t4, t5)
     }
-    try_before(matrix, round, places, fwd, g3, t1, t2, t3, t4, t5)
 }

@@ -1,9 +1,8 @@
-use Rattle.answers.proofs.PackLaws.{Packing}
-use Prim.Native.Nat.{◌-◌}
+use Rattle.std.proofs.Common.{◌*◌, take}
+use Rattle.rules.specs.Lists.{each}
+use Rattle.rules.specs.Bits.{bits, bytes_of}
+use Rattle.bits.specs.Write.{Wrote}
 use Rattle.answers.proofs.put_round.Given as goal
 
 abbrev pub invariant-loop-i : goal.invariant-loop-i
-invariant-loop-i l = Packing l.initial.a l.round l.a l.at l.i
-
-abbrev pub decreases-loop-i : goal.decreases-loop-i
-decreases-loop-i l = l.n - l.i
+invariant-loop-i l = Wrote l.initial.a 16 (bytes_of (each (bits 12) (take (2 * l.i) l.round))) l.a

@@ -7,7 +7,3 @@ use Rattle.checks.proofs.flags_marked.Given as goal
 abbrev pub invariant-loop-i : goal.invariant-loop-i
 invariant-loop-i l =
     (l.i ≤ length l.flags) × ((k : ℕ) → k < l.i → at l.flags k ≡ at l.marks k)
-
-abbrev pub decreases-loop-i : goal.decreases-loop-i
-decreases-loop-i l =
-    length l.flags - l.i

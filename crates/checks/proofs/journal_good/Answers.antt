@@ -14,12 +14,12 @@ loop-i-init c = (search rules, (omega (arith, c.if-journal-held.false), λ k h. 
 
 pub loop-i-preserved : goal.loop-i-preserved
 unfolding good_entry
-loop-i-preserved c = (search rules, (c.loop-i.invariant.1.0, below_more _ _ c.loop-i.invariant.1.1 (sym c.entry_good.ensures ∙ c.if-entry_good.true)))
+loop-i-preserved c = (search rules, (c.loop-i.invariant.1.0, below_more _ _ c.loop-i.invariant.1.1 (sym c.entry_good.ensures ∙ c.if-not-entry_good.false)))
 
-pub returns-else-entry_good : goal.returns-else-entry_good
+pub returns-then-not-entry_good : goal.returns-then-not-entry_good
 unfolding good_entry
-returns-else-entry_good c =
-    sym (not_so _ (λ e. true_false (sym (good_each c.args.n c.args.journal.now c.args.held e c.loop-i.i c.loop-i-test.true) ∙ sym c.entry_good.ensures ∙ c.if-entry_good.false)))
+returns-then-not-entry_good c =
+    sym (not_so _ (λ e. true_false (sym (good_each c.args.n c.args.journal.now c.args.held e c.loop-i.i c.loop-i-test.true) ∙ sym c.entry_good.ensures ∙ c.if-not-entry_good.true)))
 
 pub returns : goal.returns
 returns c =

@@ -8,7 +8,3 @@ use Rattle.checks.proofs.journal_good.Given as goal
 abbrev pub invariant-loop-i : goal.invariant-loop-i
 invariant-loop-i l =
     (l.i ≤ l.held) × ((5 * l.held ≤ length l.journal) × ((k : ℕ) → k < l.i → good_entry l.n l.journal k ≡ true))
-
-abbrev pub decreases-loop-i : goal.decreases-loop-i
-decreases-loop-i l =
-    l.held - l.i

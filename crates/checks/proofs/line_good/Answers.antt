@@ -22,8 +22,8 @@ returns-then-mark_waiting c =
     let m = c.mark_waiting in
     c.flags_marked.ensures ∙ marked (length a.queue.now) a.queue.now a.flags.now a.head a.count c.if-queue-head.false c.if-queue-count.false m.result _ m.ensures c.if-mark_waiting.true c.requires.flags_len
 
-pub returns : goal.returns
-returns c =
+pub returns-else-mark_waiting : goal.returns-else-mark_waiting
+returns-else-mark_waiting c =
     let a = c.args in
     let m = c.mark_waiting in
-    unmarked (length a.queue.now) a.queue.now a.flags.now a.head a.count c.if-queue-head.false c.if-queue-count.false m.result _ m.ensures c.if-mark_waiting.false
+    c.if-mark_waiting.false ∙ unmarked (length a.queue.now) a.queue.now a.flags.now a.head a.count c.if-queue-head.false c.if-queue-count.false m.result _ m.ensures c.if-mark_waiting.false

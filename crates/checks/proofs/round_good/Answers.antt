@@ -11,28 +11,28 @@ loop-i-init c = (search rules, λ k h. absurd (omega arith))
 
 pub returns-then-n-v : goal.returns-then-n-v
 returns-then-n-v c =
-    one_fails c.args.round.now c.args.places.now c.requires.round_len_bound c.requires.places_len (λ t. omega (arith, c.wide-v.ensures, c.if-n-v.true, t.stop c.loop-i.i c.loop-i-test.true))
+    one_fails c.args.round.now c.args.places.now c.requires.round_len_bound c.requires.places_len (λ t. omega (arith, c.if-n-v.true, t.stop c.loop-i.i c.loop-i-test.true))
 
-pub returns-then-wide-i : goal.returns-then-wide-i
-returns-then-wide-i c =
-    one_fails c.args.round.now c.args.places.now c.requires.round_len_bound c.requires.places_len (λ t. c.if-wide-i.true (c.wide.ensures ∙ ap (at c.args.places.now) c.wide-v.ensures ∙ t.back c.loop-i.i c.loop-i-test.true))
+pub returns-then-places-v : goal.returns-then-places-v
+returns-then-places-v c =
+    one_fails c.args.round.now c.args.places.now c.requires.round_len_bound c.requires.places_len (λ t. c.if-places-v.true (t.back c.loop-i.i c.loop-i-test.true))
 
 pub returns-then-n-p : goal.returns-then-n-p
 returns-then-n-p c =
-    one_fails c.args.round.now c.args.places.now c.requires.round_len_bound c.requires.places_len (λ t. omega (arith, c.wide-p.ensures, c.if-n-p.true, t.place c.loop-i.i c.loop-i-test.true))
+    one_fails c.args.round.now c.args.places.now c.requires.round_len_bound c.requires.places_len (λ t. omega (arith, c.if-n-p.true, t.place c.loop-i.i c.loop-i-test.true))
 
-pub returns-then-wide-i-2 : goal.returns-then-wide-i-2
-returns-then-wide-i-2 c =
-    one_fails c.args.round.now c.args.places.now c.requires.round_len_bound c.requires.places_len (λ t. c.if-wide-i-2.true (c.wide-in-loop-i.ensures ∙ ap (at c.args.round.now) c.wide-p.ensures ∙ t.forth c.loop-i.i c.loop-i-test.true))
+pub returns-then-round-p : goal.returns-then-round-p
+returns-then-round-p c =
+    one_fails c.args.round.now c.args.places.now c.requires.round_len_bound c.requires.places_len (λ t. c.if-round-p.true (t.forth c.loop-i.i c.loop-i-test.true))
 
 pub loop-i-preserved : goal.loop-i-preserved
 loop-i-preserved c = (
   search rules,
   below_more _ _ c.loop-i.invariant.1 (record {
-    stop = omega (arith, c.wide-v.ensures, c.if-n-v.false);
-    place = omega (arith, c.wide-p.ensures, c.if-n-p.false);
-    back = sym (c.wide.ensures ∙ ap (at c.args.places.now) c.wide-v.ensures) ∙ c.if-wide-i.false;
-    forth = sym (c.wide-in-loop-i.ensures ∙ ap (at c.args.round.now) c.wide-p.ensures) ∙ c.if-wide-i-2.false;
+    stop = omega (arith, c.if-n-v.false);
+    place = omega (arith, c.if-n-p.false);
+    back = c.if-places-v.false;
+    forth = c.if-round-p.false;
   }),
 )
 

@@ -6,7 +6,3 @@ use Rattle.checks.proofs.round_good.Given as goal
 abbrev pub invariant-loop-i : goal.invariant-loop-i
 invariant-loop-i l =
     (l.i ≤ length l.round) × ((k : ℕ) → k < l.i → Both l.round l.places k)
-
-abbrev pub decreases-loop-i : goal.decreases-loop-i
-decreases-loop-i l =
-    length l.round - l.i

@@ -3,4 +3,4 @@ use lib.Dec.{eqb}
 use Rattle.checks.proofs.time_good.Goals as goal
 
 pub returns : goal.returns
-returns c = ap (eqb c.args.time) c.cost-counted.ensures.is
+returns c = ap (eqb c.args.time) c.cost.ensures.is

@@ -1,17 +1,22 @@
-use mathlib.Core.Path.{refl}
-use native.Mathlib.Omega.{arith}
+use Rattle.std.proofs.Common.{refl, arith}
 use Rattle.exact.proofs.Numbers.{ready}
+use Rattle.exact.proofs.Solves.{alone_done, walked_done}
 use Rattle.exact.proofs.solve_tsp_exact.Goals as goal
 
-pub run-time-requires : goal.run-time-requires
-run-time-requires c =
-    let says = c.number_of-number.ensures.says c.args.matrix.now c.args.round.now c.args.table.now refl refl refl in
-    ready c.args.n c.args.matrix.now c.args.round.now c.args.table.now (omega (arith, c.if-number-eq0.true))
+pub returns-then-n-eq1 : goal.returns-then-n-eq1
+returns-then-n-eq1 c = let s = c.args in
+    let r = ready s.n s.matrix.now s.round.now s.table.now (omega (arith, c.in_ok-check.ensures)) in
+    record {
+      says = omega (arith, c.in_ok-check.ensures);
+      refused = λ z. absurd (z refl);
+      done = λ z. alone_done s.matrix.now s.n r.low r.high (λ i. omega (arith, c.type_inv.matrix i)) c.if-n-eq1.true s.table.now s.round.now r.long;
+    }
 
-pub returns-then-number-eq0 : goal.returns-then-number-eq0
-returns-then-number-eq0 c =
-    record { says = c.number_of-number.ensures.says c.args.matrix.now c.args.round.now c.args.table.now refl refl refl; refused = λ z. absurd (z c.if-number-eq0.true); done = λ z. c.run-time.ensures }
-
-pub returns-else-number-eq0 : goal.returns-else-number-eq0
-returns-else-number-eq0 c =
-    record { says = c.number_of-number.ensures.says c.args.matrix.now c.args.round.now c.args.table.now refl refl refl; refused = λ z. record { no_time = refl; table_same = refl; round_same = refl }; done = λ z. absurd (c.if-number-eq0.false z) }
+pub returns : goal.returns
+returns c = let s = c.args in
+    let r = ready s.n s.matrix.now s.round.now s.table.now (omega (arith, c.in_ok-check.ensures)) in
+    record {
+      says = omega (arith, c.in_ok-check.ensures);
+      refused = λ z. absurd (z refl);
+      done = λ z. walked_done s.matrix.now s.n r.low r.high (λ i. omega (arith, c.type_inv.matrix i)) (omega (arith, c.if-n-eq1.false)) c.run.ensures.walked c.run.ensures.filled;
+    }

@@ -1,30 +1,40 @@
 use Prim.Native.Nat.{ℕ}
-use mathlib.Core.Path.{◌≡◌, sym, ap, ◌∙◌}
+use mathlib.Core.Path.{◌≡◌}
 use mathlib.Core.Bool.{true, false}
 use native.Mathlib.Omega.{arith}
-use lib.ListN.{length}
 use Rattle.rules.specs.Improve.{improve}
-use Rattle.rules.specs.Journal.{track_of}
 use Rattle.laws.proofs.StayLaws.{improve_stays}
-use Rattle.improve.specs.Steps.{plan_of, near_plan}
+use Rattle.journal.specs.Tracks.{track_in}
+use Rattle.improve.specs.Steps.{near_in, plan_with}
 use Rattle.improve.proofs.ImproveLaws.{improve_any, both_is}
-use Rattle.improve.proofs.StepLaws.{stepped_is, stepped_first, stepped_else, still_ready, still_journalled}
+use Rattle.improve.proofs.StepLaws.{stepped_is, stepped_first, stepped_else, still_room}
 use Rattle.improve.proofs.improve_both.Goals as goal
 
-pub returns-then-a-gt0 : goal.returns-then-a-gt0
-returns-then-a-gt0 c = λ ka alpha. let a = c.args in let n = length a.round.now in let t = track_of a.round.now a.journal.now a.held in let p = plan_of n a.matrix.now a.k a.near.now ka alpha in stepped_is (both_is n a.matrix.now a.k a.near.now ka alpha a.t1.0 t) (stepped_first (improve p false a.t1.0) (stepped_is (improve_any n a.matrix.now a.k a.near.now ka alpha a.t1.0 t true) c.improve-a.ensures) (omega (arith, c.if-a-gt0.true)) (omega arith))
+pub returns-then-gain-gt0-clause-stepped : goal.returns-then-gain-gt0-clause-stepped
+returns-then-gain-gt0-clause-stepped c = λ ka alpha.
+    let a = c.args in
+    let m = a.plan.now.matrix in
+    let l = a.plan.now.near in
+    let t = track_in a.work.now.track.now in
+    stepped_is (both_is m.n m.times.now l.count l.entries.now ka alpha a.t1.0 t)
+    (stepped_first (improve (plan_with a.plan.now ka alpha) false a.t1.0) (stepped_is (improve_any m.n m.times.now l.count l.entries.now ka alpha a.t1.0 t true) c.improve-gain.ensures.stepped) (omega (arith, c.if-gain-gt0.true)) (omega arith))
 
-pub improve-requires : goal.improve-requires
-improve-requires c = let a = c.args in let n = length a.round.now in let t = track_of a.round.now a.journal.now a.held in let s = c.improve-a.ensures in let stays = improve_stays (near_plan n a.matrix.now a.k a.near.now) a.t1.0 t true in let none : c.improve-a.result.gain ≡ 0 = omega arith in let long : length c.improve-a.new.round ≡ n = c.round-1.given in record { ready = still_ready a.round.now stays s none c.requires.ready; t1_in_bounds = omega (arith, c.requires.t1_in_bounds, long); scratch_len = c.scratch-1.given ∙ c.requires.scratch_len ∙ sym long; queue_len = c.queue-1.given ∙ c.requires.queue_len ∙ sym long; in_line = s.waits.line; journalled = still_journalled a.round.now stays s none 2 c.journal-1.given c.requires.journalled }
+pub improve-requires-clause-room : goal.improve-requires-clause-room
+improve-requires-clause-room c =
+    let a = c.args in
+    let t = a.work.now.track.now in
+    let s = c.improve-gain.ensures in
+    let none : c.improve-gain.result ≡ 0 = omega arith in
+    still_room t.stops.now (improve_stays (near_in a.plan.now) a.t1.0 (track_in t) true) s.stepped none 2 s.same.room c.requires.room
 
-pub shape_of-round : goal.shape_of-round
-shape_of-round c = c.round-2-1.given ∙ c.round-1.given
-
-pub shape_of-places : goal.shape_of-places
-shape_of-places c = c.places-2-1.given ∙ c.places-1.given
-
-pub shape_of-scratch : goal.shape_of-scratch
-shape_of-scratch c = c.scratch-2-1.given ∙ c.scratch-1.given
-
-pub returns : goal.returns
-returns c = λ ka alpha. let a = c.args in let n = length a.round.now in let t = track_of a.round.now a.journal.now a.held in let p = plan_of n a.matrix.now a.k a.near.now ka alpha in let s = c.improve-a.ensures in let u = track_of c.improve-a.new.round c.improve-a.new.journal c.improve-a.result.held in let none : c.improve-a.result.gain ≡ 0 = omega arith in stepped_is (both_is n a.matrix.now a.k a.near.now ka alpha a.t1.0 t) (stepped_else a.round.now (improve_stays p a.t1.0 t true) (stepped_is (improve_any n a.matrix.now a.k a.near.now ka alpha a.t1.0 t true) s) none (improve p false a.t1.0) (stepped_is (ap (λ (m : ℕ). improve (near_plan m a.matrix.now a.k a.near.now) false a.t1.0 u) c.round-1.given ∙ improve_any n a.matrix.now a.k a.near.now ka alpha a.t1.0 u false) c.improve.ensures))
+pub returns-clause-stepped : goal.returns-clause-stepped
+returns-clause-stepped c = λ ka alpha.
+    let a = c.args in
+    let m = a.plan.now.matrix in
+    let l = a.plan.now.near in
+    let p = plan_with a.plan.now ka alpha in
+    let t = track_in a.work.now.track.now in
+    let none : c.improve-gain.result ≡ 0 = omega arith in
+    stepped_is (both_is m.n m.times.now l.count l.entries.now ka alpha a.t1.0 t)
+    (stepped_else a.work.now.track.now.stops.now (improve_stays p a.t1.0 t true) (stepped_is (improve_any m.n m.times.now l.count l.entries.now ka alpha a.t1.0 t true) c.improve-gain.ensures.stepped) none (improve p false a.t1.0)
+    (stepped_is (improve_any m.n m.times.now l.count l.entries.now ka alpha a.t1.0 (track_in c.improve-gain.new.work.track.now) false) c.improve.ensures.stepped))

@@ -1,17 +1,16 @@
 use Prim.Native.Nat.{◌<◌}
 use native.Mathlib.Omega.{arith}
 use lib.ListN.{length}
-use Rattle.rules.specs.Plan.{leg_in}
 use Rattle.rules.specs.Journal.{track_of}
+use Rattle.journal.specs.Tracks.{track_in}
+use Rattle.kicks.specs.Kicking.{legs_in}
 use Rattle.kicks.proofs.GlobalLaws.{global_shuffle}
 use Rattle.kicks.proofs.global_kick.Goals as goal
 
-pub returns-then-round-lt8 : goal.returns-then-round-lt8
+pub returns-then-matrix-lt8-clause-kicked : goal.returns-then-matrix-lt8-clause-kicked
 unfolding track_of
-returns-then-round-lt8 c =
+returns-then-matrix-lt8-clause-kicked c =
     let a = c.args in
-    let few : length a.round.now < 8 = omega arith in
-    rw (global_shuffle (leg_in (length a.round.now) a.matrix.now) a.state.now (track_of a.round.now a.journal.now a.held) few) c.shuffle_kick.ensures
-
-pub bridge_kick-requires : goal.bridge_kick-requires
-bridge_kick-requires c = record { ready = c.requires.ready; scratch_len = c.requires.scratch_len; in_bounds = c.if-round-lt8.false }
+    let t = a.work.now.track.now in
+    let few : length t.stops.now < 8 = omega (arith, c.requires.ready.size) in
+    rw (global_shuffle (legs_in a.matrix.now) a.state.now (track_in t) few) c.shuffle_kick.ensures.kicked

@@ -1,5 +1,6 @@
 use Rattle.bits.proofs.ReadLaws.{read_16}
+use native.Mathlib.Omega.{arith}
 use Rattle.bits.proofs.read.read16.Goals as goal
 
 pub returns : goal.returns
-returns c = read_16 c.args.s.now c.args.q c.wide.result c.wide-2.result c.requires c.wide.ensures.0 c.wide-2.ensures.0 c.wide.ensures.1 c.wide-2.ensures.1
+returns c = read_16 c.args.s.now (λ i. omega (arith, c.type_inv.s i)) c.args.q _ _ c.requires c.bytes_at.ensures c.from_be_bytes.ensures

@@ -1,5 +1,6 @@
 use Rattle.bits.proofs.ReadLaws.{read_64}
+use native.Mathlib.Omega.{arith}
 use Rattle.bits.proofs.read.read64.Goals as goal
 
 pub returns : goal.returns
-returns c = read_64 c.args.s.now c.args.q c.read32.result c.read32-2.result c.requires c.read32.ensures c.read32-2.ensures
+returns c = read_64 c.args.s.now (λ i. omega (arith, c.type_inv.s i)) c.args.q _ _ c.requires c.bytes_at.ensures c.from_be_bytes.ensures

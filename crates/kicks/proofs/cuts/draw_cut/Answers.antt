@@ -12,12 +12,6 @@ use Rattle.kicks.proofs.cuts.draw_cut.Goals as goal
 pub draw-a-requires : goal.draw-a-requires
 draw-a-requires c = omega (arith, cut_long c.args.n c.args.kind c.requires.kind_bound c.requires.kind_value, c.longest-high.ensures.is)
 
-pub draw_middle-b-requires : goal.draw_middle-b-requires
-draw_middle-b-requires c = omega (arith, cut_long c.args.n c.args.kind c.requires.kind_bound c.requires.kind_value, c.longest-high.ensures.is)
-
-pub draw-c-requires : goal.draw-c-requires
-draw-c-requires c = omega (arith, cut_long c.args.n c.args.kind c.requires.kind_bound c.requires.kind_value, c.longest-high.ensures.is)
-
 pub returns : goal.returns
 returns c =
     let n : ℕ = c.args.n in
@@ -28,12 +22,11 @@ returns c =
     let x3 : ℕ = c.draw-c.new.state in
     let x4 : ℕ = c.draw-start.new.state in
     let l = c.longest-high.ensures.is in
-    let a : c.wide.result ≡ drawn 1 (longestOf n) (moved x) = rw (← l) (omega (arith, c.draw-a.ensures.is, c.wide.ensures)) in
-    let b : c.wide-2.result ≡ (when eqb kind 0 then drawn 1 (longestOf n) (moved x1) else 0) = rw (← l) (omega (arith, c.draw_middle-b.ensures.is, c.wide-2.ensures)) in
-    let d : c.wide-3.result ≡ drawn 1 (longestOf n) (moved x2) = rw (← l) (omega (arith, c.draw-c.ensures.is, c.wide-3.ensures)) in
-    let s : c.draw-start.result ≡ drawn 0 (n - 1) (moved x3) = rw (← c.narrow.ensures) (omega (arith, c.draw-start.ensures.is)) in
+    let a : c.draw-a.result ≡ drawn 1 (longestOf n) (moved x) = rw (← l) c.draw-a.ensures.is in
+    let b : c.draw_middle-b.result ≡ (when eqb kind 0 then drawn 1 (longestOf n) (moved x1) else 0) = rw (← l) c.draw_middle-b.ensures.is in
+    let d : c.draw-c.result ≡ drawn 1 (longestOf n) (moved x2) = rw (← l) c.draw-c.ensures.is in
     record {
-      is = cut_drawn n kind x x1 x2 x3 x4 _ _ _ _ c.requires.kind_value c.requires.kind_bound c.draw-a.ensures.state a c.draw_middle-b.ensures.state b c.draw-c.ensures.state d c.draw-start.ensures.state s;
+      is = cut_drawn n kind x x1 x2 x3 x4 _ _ _ _ c.requires.kind_value c.requires.kind_bound c.draw-a.ensures.state a c.draw_middle-b.ensures.state b c.draw-c.ensures.state d c.draw-start.ensures.state c.draw-start.ensures.is;
       middle = λ e. rw e at b;
       some = λ p. c.draw-start.ensures.some (c.draw-c.ensures.some (c.draw_middle-b.ensures.some (c.draw-a.ensures.some p)));
       segments = search rules;

@@ -5,8 +5,5 @@ use Rattle.kicks.proofs.ends.stop_on.Goals as goal
 
 pub returns : goal.returns
 returns c =
-    let r = c.args.round.now in
-    record {
-      is = ap (at r) c.wrap-i.ensures.is ∙ (rw c.wide.ensures (stop_wrapped r c.args.start.0 c.args.k c.requires.start_in_bounds c.requires.k_in_bounds));
-      below = c.requires.tied.stop c.wrap-i.result c.wrap-i.ensures.below;
-    }
+    let r = c.args.round.now.stops.now in
+    record { is = c.stop_at.ensures.is ∙ ap (at r) c.wrap-i.ensures.is ∙ (rw c.len.ensures (stop_wrapped r c.args.start.0 c.args.k c.requires.start_low c.requires.k_low)); below = c.stop_at.ensures.below }

@@ -6,16 +6,14 @@ use borrow.Author.Tests.{eq-eqb, ne_eqb}
 use Rattle.journal.proofs.GrewLaws.{grew_self}
 use Rattle.kicks.proofs.shuffles.exchange_drawn.Goals as goal
 
-pub returns-then-r-k : goal.returns-then-r-k
-returns-then-r-k c =
+pub returns-then-r-k-clause-moved : goal.returns-then-r-k-clause-moved
+returns-then-r-k-clause-moved c =
     let a = c.args in
+    let t = a.track.now in
     let e : eqb a.r a.k ≡ true = eq-eqb a.r a.k c.if-r-k.true in
-    rw e (record { is = refl; tied = c.requires.tied; good = c.requires.journalled.good; grew = grew_self a.journal.now a.held; high = omega arith })
+    rw e (record { is = refl; tied = t.tied; good = t.good; grew = grew_self t.journal.now t.held; high = omega arith })
 
-pub swap-requires : goal.swap-requires
-swap-requires c = record { tied = c.requires.tied; i_in_bounds = omega (arith, c.requires); j_in_bounds = omega (arith, c.requires); journalled = c.requires.journalled }
-
-pub returns : goal.returns
-returns c =
+pub returns-clause-moved : goal.returns-clause-moved
+returns-clause-moved c =
     let e : eqb c.args.r c.args.k ≡ false = ne_eqb c.args.r c.args.k c.if-r-k.false in
-    rw e c.swap.ensures
+    rw e c.swap.ensures.moved

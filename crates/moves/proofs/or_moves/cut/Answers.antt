@@ -1,11 +1,10 @@
-use native.Mathlib.Omega.{arith}
 use Rattle.moves.specs.Cuts.{cut_of}
+use Rattle.moves.proofs.or_moves.cut.Goals.{then-fwd, else-fwd}
 use Rattle.moves.proofs.or_moves.cut.Goals as goal
-
-pub returns-then-fwd : goal.returns-then-fwd
-unfolding cut_of
-returns-then-fwd c = record { is = rw c.if-fwd.true (cc (c.wide.ensures, c.place_of-p.ensures.is)); below = omega (arith, c.wide.ensures, c.place_of-p.ensures.below) }
 
 pub returns : goal.returns
 unfolding cut_of
-returns c = record { is = rw c.if-fwd.false (cc (c.wide-2.ensures, c.place_of-p-2.ensures.is)); below = omega (arith, c.wide-2.ensures, c.place_of-p-2.ensures.below) }
+returns c = elim c.if-fwd.branch [
+  | then-fwd w ↦ rw (w.if-fwd.true, ← w.later-is) c.place_of.ensures
+  | else-fwd w ↦ rw (w.if-fwd.false, ← w.later-is) c.place_of.ensures
+]

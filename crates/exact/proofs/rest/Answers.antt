@@ -1,5 +1,0 @@
-use Rattle.exact.proofs.Bits.{rest_is}
-use Rattle.exact.proofs.rest.Goals as goal
-
-pub returns : goal.returns
-returns c = rest_is c.args.set
