@@ -1,8 +1,6 @@
--- 01, 10: the step of each kind by its parts.
-use Prim.Native.Nat.{ℕ, ◌≤◌, ◌<◌}
+-- The step of each kind by its parts.
+use Prim.Native.Nat.{◌≤◌, ◌<◌}
 use mathlib.Core.Path.{◌≡◌, refl}
-use mathlib.Core.List.{List}
-use native.Mathlib.Omega.{arith}
 use borrow.Author.Tests.{lt-ltb, le-ltb}
 use lib.ListN.{length}
 use Rattle.rules.specs.Words.{Stop}
@@ -12,7 +10,6 @@ use Rattle.rules.specs.Improve.{or_else, improve_both}
 use Rattle.rules.specs.Lk.{lk_from}
 use Rattle.rules.specs.Lk3.{lk3_from}
 use Rattle.rules.specs.Descend.{step_from}
-use Rattle.journal.specs.Journalled.{Journalled}
 
 module _ (p : Plan) (v : Stop) (t : Track) where
   pub lk_is : or_else (lk_from p v t) (improve_both p v) ≡ step_from p 0 v t
@@ -31,7 +28,3 @@ module _ (p : Plan) (v : Stop) (t : Track) where
   pub only_is : 5 ≤ length t.round → lk3_from p v t ≡ step_from p 2 v t
   unfolding step_from
   only_is h = rw (le-ltb (length t.round) 5 h)
-
--- room for more is room for fewer
-pub room_for : {n : ℕ} {journal : List ℕ} {held a : ℕ} (b : ℕ) → Journalled n journal held a → b ≤ a → Journalled n journal held b
-room_for b j h = record { good = j.good; room = omega (arith, j.room, h) }

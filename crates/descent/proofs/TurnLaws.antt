@@ -1,4 +1,4 @@
--- 01, 10: one turn of a descent, and the ways to end.
+-- One turn of a descent, and the ways to end.
 use Prim.Native.Nat.{ℕ, zero, suc, ◌-◌, ◌<◌}
 use mathlib.Core.Path.{◌≡◌, refl, sym, ap, ◌∙◌}
 use mathlib.Core.Logic.{◌⊎◌, inl, inr}

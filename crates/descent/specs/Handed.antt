@@ -1,25 +1,15 @@
--- What the steps of a descent are handed, and what a descent leaves. Assumes nothing.
-use Rattle.std.specs.Prelude.{ℕ, ◌≤◌, ◌<◌, ◌≡◌, Bool, true, false, List, [], ◌∷◌, length}
+-- What a step of a descent and a descent leave. Assumes nothing.
+use Rattle.std.specs.Prelude.{ℕ, ◌<◌, ◌≡◌, Bool, true, false, List, [], ◌∷◌, length}
 use Rattle.rules.specs.Words.{Stop, Place, Time, Round}
 use Rattle.rules.specs.Lists.{when◌then◌else◌}
 use Rattle.rules.specs.Queue.{push_all, waiting}
 use Rattle.rules.specs.Journal.{Track, good_journal, track_of}
 use Rattle.rules.specs.Plan.{Plan}
 use Rattle.rules.specs.Descend.{Manner, kept, committed, Ran, step_from, leave}
-use Rattle.rules.specs.SharedWords.{Tied, Listed}
+use Rattle.rules.specs.SharedWords.{Tied}
 use Rattle.journal.specs.Journalled.{Grew}
 use Rattle.queue.specs.Lines.{InLine, Waits}
 use Rattle.moves.specs.Moves.{Made}
-use Rattle.scans.specs.Scans.{Ready}
-
--- matrix and both lists, round and places that fit them, scratch and a queue of as many words
-pub record Handed (matrix : List Time) (near : List Stop) (k : ℕ) (alpha : List Stop) (ka : ℕ) (round : Round) (places : List Place) (scratch queue flags : List ℕ) (head : Place) (count : ℕ) : Type 0 where
-  pub ready : Ready matrix near k round places
-  pub some : 1 ≤ k
-  pub alphas : Listed alpha ka (length round)
-  pub scratch_long : length scratch ≡ length round
-  pub queue_long : length queue ≡ length round
-  pub line : InLine queue flags head count
 
 -- the first stop of a queue q taken, v, and the step from it done; vs waited behind it
 pub record TookStep (p : Plan) (kind : ℕ) (t : Track) (q : List Stop) (journal : List ℕ) (held : ℕ) (round : Round) (places : List Place) (queue' flags' journal' : List ℕ) (gain : Time) (held' : ℕ) (head' : Place) (count' : ℕ) : Type 0 where

@@ -1,1 +1,2 @@
+pub mod Descents
 pub mod Handed

@@ -2,34 +2,32 @@
 
 #![tactic(auto)]
 
-ghost use Rattle.std.specs.Prelude.{◌≡◌, true, false, ℕ, ◌-◌, ◌/◌, ◌<◌, ◌≤◌, ltb, length};
+ghost use Rattle.std.specs.Prelude.{◌≡◌, true, false, ℕ, ◌+◌, ◌-◌, ◌*◌, ◌/◌, ◌<◌, ◌≤◌, ltb, length};
 ghost use Rattle.rules.specs.Lists.{when◌then◌else◌};
 ghost use Rattle.rules.specs.Ring.{recount};
-ghost use Rattle.rules.specs.Queue.{waiting};
-ghost use Rattle.rules.specs.Journal.{track_of, good_journal};
 ghost use Rattle.rules.specs.Plan.{leg_in};
-ghost use Rattle.rules.specs.State.{State};
 ghost use Rattle.rules.specs.Descend.{descend as descend_of};
 ghost use Rattle.laws.proofs.GainLaws.{Fit};
-ghost use Rattle.journal.specs.Journalled.{Journalled};
-ghost use Rattle.improve.specs.Steps.{plan_of};
-ghost use Rattle.descent.specs.Handed.{Handed, TookStep, manner_of, Ended, Descended};
+ghost use Rattle.legs.specs.Plans.{plan_in};
+ghost use Rattle.journal.specs.Tracks.{SameTrack};
+ghost use Rattle.work.specs.Works.{SameWork};
+ghost use Rattle.descent.specs.Handed.{manner_of};
+ghost use Rattle.descent.specs.Descents.{Keeps, Takes, state_at, room_of, Ends, Descends};
 
 use crate::steps::step_from;
-use improve::Gained;
-use queue::{Line, clear_queue, pop_front};
+use journal::track::Track;
+use legs::plan::Plan;
+use work::work::Work;
 
 pub mod steps;
 
 // The free journal entries that a step may take.
 const STEP: usize = 100;
 
-// Where a descent stands: the carried time, the entries held, who waits, the units left and how it ended.
+// Where a descent stands: the carried time, the units left and how it ended.
 #[derive(Clone, Copy)]
 pub struct Descent {
     pub time: u32,
-    pub held: usize,
-    pub line: Line,
     pub left: u32,
     pub ended: u32,
 }
@@ -39,109 +37,66 @@ fn short(keeps: bool, room: usize, held: usize) -> bool
     requires { held ≤ room }
     ensures { result ≡ (when keeps then ltb (room - held) 100 else false) }
 {
-    if keeps {
-        return room - held < STEP;
-    }
-    false
+    keeps && room - held < STEP
 }
 
-// The entries that are kept: all in a kept descent, none in a committed one.
-fn kept(keeps: bool, held: usize) -> usize
-    ensures { result ≡ (when keeps then held else 0) }
+// The entries held stay in a kept descent; a committed one empties the journal.
+fn keep(track: &mut Track, keeps: bool)
+    ensures same { SameTrack track.old track.new }
+    ensures kept { Keeps keeps track.old track.new }
 {
-    if keeps {
-        return held;
+    if !keeps {
+        track.held = 0;
     }
-    0
 }
 
 // Takes the first of those that wait, and makes the step from it.
-pub fn take_step(
-    matrix: &[u16],
-    near: &[u32],
-    k: usize,
-    alpha: &[u32],
-    ka: usize,
-    round: &mut [u32],
-    places: &mut [u32],
-    scratch: &mut [u32],
-    queue: &mut [u32],
-    flags: &mut [u8],
-    journal: &mut [u32],
-    held: usize,
-    line: Line,
-    step: u32,
-) -> Gained
-    requires handed { Handed matrix.now near.now k alpha.now ka round.old places.old scratch.old queue.old flags.old line.head line.count }
-    requires count_nonzero { 0 < line.count }
-    requires journalled { Journalled (length round.old) journal.old held 100 }
-    requires step_bound { step ≤ 2 }
-    ensures { TookStep (plan_of (length round.old) matrix.now k near.now ka alpha.now) step (track_of round.old journal.old held) (waiting queue.old line.head line.count) journal.old held round.new places.new queue.new flags.new journal.new result.gain result.held result.line.head result.line.count }
+pub fn take_step(plan: &Plan, work: &mut Work, step: u32) -> u32
+    requires size { plan.now.matrix.n ≡ length work.old.track.now.stops.now }
+    requires some { 1 ≤ plan.now.near.count }
+    requires waits { 0 < work.old.queue.now.count }
+    requires room { 5 * (work.old.track.now.held + 100) ≤ length work.old.track.now.journal.now }
+    requires step_low { step ≤ 2 }
+    ensures same { SameWork work.old work.new }
+    ensures took { Takes (plan_in plan.now) step work.old work.new result }
 {
-    let taken = pop_front(queue, flags, line);
-    let rest = taken.line;
-    step_from(
-        matrix, near, k, alpha, ka, round, places, scratch, queue, flags, journal, held, rest,
-        step, taken.stop,
-    )
+    let queue = &mut *work.queue;
+    let v = queue.pop_front();
+    step_from(plan, work, step, v)
 }
 
 // Takes stops until the descent ends; a committed one empties the journal before each stop and on leaving.
-pub fn run(
-    matrix: &[u16],
-    near: &[u32],
-    k: usize,
-    alpha: &[u32],
-    ka: usize,
-    round: &mut [u32],
-    places: &mut [u32],
-    scratch: &mut [u32],
-    queue: &mut [u32],
-    flags: &mut [u8],
-    journal: &mut [u32],
-    held: usize,
-    line: Line,
-    step: u32,
-    keeps: bool,
-    budget: u32,
-    time: u32,
-) -> Descent
-    requires handed { Handed matrix.now near.now k alpha.now ka round.old places.old scratch.old queue.old flags.old line.head line.count }
-    requires held_value { good_journal (length round.old) journal.old held ≡ true }
-    requires in_bounds { 2560 ≤ length journal.old }
-    requires step_bound { step ≤ 2 }
-    requires fit { Fit (plan_of (length round.old) matrix.now k near.now ka alpha.now) (length round.old) }
-    requires time_value { time ≡ recount (leg_in (length round.old) matrix.now) round.old }
-    ensures { Ended (descend_of (plan_of (length round.old) matrix.now k near.now ka alpha.now) step (manner_of keeps (length journal.old / 5)) budget (record { track = track_of round.old journal.old held; queue = waiting queue.old line.head line.count; time = time })) (manner_of keeps (length journal.old / 5)) keeps journal.old held round.new places.new queue.new flags.new journal.new result.held result.line.head result.line.count result.time result.left result.ended }
+pub fn run(plan: &Plan, work: &mut Work, step: u32, keeps: bool, budget: u32, time: u32) -> Descent
+    requires size { plan.now.matrix.n ≡ length work.old.track.now.stops.now }
+    requires some { 1 ≤ plan.now.near.count }
+    requires fit { Fit (plan_in plan.now) plan.now.matrix.n }
+    requires room { 2560 ≤ length work.old.track.now.journal.now }
+    requires step_low { step ≤ 2 }
+    requires time_is { time ≡ recount (leg_in plan.now.matrix.n plan.now.matrix.times.now) work.old.track.now.stops.now }
+    ensures same { SameWork work.old work.new }
+    ensures ended { Ends (descend_of (plan_in plan.now) step (manner_of keeps (room_of work.old)) budget (state_at work.old time)) keeps work.old work.new result.time result.left result.ended }
 {
-    let room = journal.len() / 5;
-    let mut h = kept(keeps, held);
-    let mut l = line;
+    let room = work.track.journal.len() / 5;
     let mut left = budget;
     let mut carried = time;
     let mut ended: u32 = 0;
-    'stops: while 0 < l.count {
+    keep(&mut *work.track, keeps);
+    'stops: while 0 < work.queue.count {
         if left == 0 {
             ended = 1;
             break 'stops;
         }
-        let full = short(keeps, room, h);
-        if full {
+        if short(keeps, room, work.track.held) {
             ended = 2;
             break 'stops;
         }
-        let g = take_step(
-            matrix, near, k, alpha, ka, round, places, scratch, queue, flags, journal, h, l, step,
-        );
-        left = left - 1;
-        carried = carried - g.gain;
-        h = kept(keeps, g.held);
-        l = g.line;
+        let gain = take_step(plan, work, step);
+        left -= 1;
+        carried -= gain;
+        keep(&mut *work.track, keeps);
     }
     Descent {
         time: carried,
-        held: h,
-        line: l,
         left,
         ended,
     }
@@ -149,37 +104,24 @@ pub fn run(
 
 // The whole descent: on leaving nobody waits.
 pub fn descend(
-    matrix: &[u16],
-    near: &[u32],
-    k: usize,
-    alpha: &[u32],
-    ka: usize,
-    round: &mut [u32],
-    places: &mut [u32],
-    scratch: &mut [u32],
-    queue: &mut [u32],
-    flags: &mut [u8],
-    journal: &mut [u32],
-    held: usize,
-    line: Line,
+    plan: &Plan,
+    work: &mut Work,
     step: u32,
     keeps: bool,
     budget: u32,
     time: u32,
 ) -> Descent
-    requires handed { Handed matrix.now near.now k alpha.now ka round.old places.old scratch.old queue.old flags.old line.head line.count }
-    requires held_value { good_journal (length round.old) journal.old held ≡ true }
-    requires in_bounds { 2560 ≤ length journal.old }
-    requires step_bound { step ≤ 2 }
-    requires fit { Fit (plan_of (length round.old) matrix.now k near.now ka alpha.now) (length round.old) }
-    requires time_value { time ≡ recount (leg_in (length round.old) matrix.now) round.old }
-    ensures { Descended (descend_of (plan_of (length round.old) matrix.now k near.now ka alpha.now) step (manner_of keeps (length journal.old / 5)) budget (record { track = track_of round.old journal.old held; queue = waiting queue.old line.head line.count; time = time })) keeps journal.old held round.new places.new queue.new flags.new journal.new result.held result.line.head result.line.count result.time result.left result.ended }
+    requires size { plan.now.matrix.n ≡ length work.old.track.now.stops.now }
+    requires some { 1 ≤ plan.now.near.count }
+    requires fit { Fit (plan_in plan.now) plan.now.matrix.n }
+    requires room { 2560 ≤ length work.old.track.now.journal.now }
+    requires step_low { step ≤ 2 }
+    requires time_is { time ≡ recount (leg_in plan.now.matrix.n plan.now.matrix.times.now) work.old.track.now.stops.now }
+    ensures same { SameWork work.old work.new }
+    ensures descended { Descends (descend_of (plan_in plan.now) step (manner_of keeps (room_of work.old)) budget (state_at work.old time)) keeps work.old work.new result.time result.left result.ended }
 {
-    let mut d = run(
-        matrix, near, k, alpha, ka, round, places, scratch, queue, flags, journal, held, line,
-        step, keeps, budget, time,
-    );
-    let waits = d.line;
-    d.line = clear_queue(queue, flags, waits);
-    d
+    let descent = run(plan, work, step, keeps, budget, time);
+    let queue = &mut *work.queue;
+    queue.clear();
+    descent
 }

@@ -22,10 +22,10 @@ roll_all r es =
     let z : length es - 0 ≡ length es = omega arith in
     ap (λ (m : ℕ). undo_all (take m es) r) z ∙ ap (λ (l : List Entry). undo_all l r) (take-length es)
 
-pub back_laid : (r : Round) (journal : List ℕ) (held : ℕ) (round : Round) (places : List Place) (held' : ℕ)
-    → Back (track_of r journal held) 0 round places journal held' → Laid (undo_all (entries_of journal held) r) round places
+pub back_laid : (r : Round) (journal : List ℕ) (held : ℕ) (round : Round) (places : List Place) (journal' : List ℕ) (held' : ℕ)
+    → Back (track_of r journal held) 0 round places journal' held' → Laid (undo_all (entries_of journal held) r) round places
 unfolding track_of
-back_laid r journal held round places held' b =
+back_laid r journal held round places journal' held' b =
     let e : round ≡ undo_all (entries_of journal held) r = ap (λ (t : Track). t.round) b.is ∙ roll_all r (entries_of journal held) in
     record { round_is = e; tied = rw e at b.tied }
 

@@ -4,8 +4,6 @@ ghost use Rattle.rules.specs.Lists.{when◌then◌else◌};
 ghost use Rattle.rules.specs.Search.{margin, restart_after as restart_after_of, stop_after as stop_after_of};
 ghost use Rattle.walks.specs.Walking.{over};
 
-use ring::places::narrow;
-
 // The carried time, the best time, the walk's record, the kicks since that and since the best, all kicks, the units left.
 #[derive(Clone, Copy)]
 pub struct Tally {
@@ -45,7 +43,7 @@ pub fn margin_of(time: u32, n: usize) -> u32
     requires le_n { (1 ≤ n) × (n ≤ 4096) }
     ensures { result ≡ margin n time }
 {
-    let w = narrow(n);
+    let w = n as u32;
     (time + 5 * w) / (10 * w)
 }
 
@@ -54,7 +52,7 @@ pub fn restart_after(n: usize) -> u32
     requires { n ≤ 4096 }
     ensures { result ≡ restart_after_of n }
 {
-    let w = narrow(n);
+    let w = n as u32;
     if 3 * w < 3000 { 3000 } else { 3 * w }
 }
 
@@ -63,7 +61,7 @@ pub fn stop_after(n: usize) -> u32
     requires { n ≤ 4096 }
     ensures { result ≡ stop_after_of n }
 {
-    let w = narrow(n);
+    let w = n as u32;
     if 500 * w < 100000 { 100000 } else { 500 * w }
 }
 
@@ -71,10 +69,7 @@ pub fn stop_after(n: usize) -> u32
 pub fn is_over(stop: bool, limit: u32, left: u32, fails: u32) -> bool
     ensures { result ≡ over stop limit left fails }
 {
-    if left == 0 {
-        return true;
-    }
-    if stop { limit <= fails } else { false }
+    left == 0 || stop && limit <= fails
 }
 
 // 1 where no unit is left, else 0.

@@ -1,171 +1,110 @@
 // The turns of a search: a kick with its kept descent, judged, or a restart from the best.
 ghost use Rattle.std.specs.Prelude.{◌≡◌, Bool, true, false, List, [], ℕ, ◌+◌, ◌*◌, ◌<◌, ◌≤◌, length};
 ghost use Rattle.rules.specs.Ring.{recount};
-ghost use Rattle.rules.specs.Plan.{leg_in, leg_of};
-ghost use Rattle.rules.specs.Journal.{good_journal, entries_of, undo_all};
-ghost use Rattle.rules.specs.SharedWords.{Tied};
+ghost use Rattle.rules.specs.Plan.{leg_in};
+ghost use Rattle.rules.specs.Journal.{entries_of, undo_all};
 ghost use Rattle.rules.specs.State.{load as load_of};
-ghost use Rattle.rules.specs.Descend.{kept, descend as descend_of};
-ghost use Rattle.rules.specs.Search.{shaken, kicked_once, restarted, turned};
-ghost use Rattle.rules.specs.Memory.{plan_in, state_in, room_in};
+ghost use Rattle.rules.specs.Search.{shaken};
 ghost use Rattle.laws.proofs.PermLaws.{Perm};
-ghost use Rattle.refusals.specs.Lending.{lending, carrying};
-ghost use Rattle.walks.specs.Walking.{tallying, Counts, judged, Given, Works, bare, Rests, walk_in, Goes, told, kick_of, Chosen, Desk, Dives, Shook, Judges};
+ghost use Rattle.journal.specs.Tracks.{SameTrack};
+ghost use Rattle.work.specs.Works.{SameWork};
+ghost use Rattle.refusals.specs.Lending.{carrying};
+ghost use Rattle.walks.specs.Walking.{Counts, Given, Works, Rests, Chosen, Desk, Shook, Judges};
+ghost use Rattle.walks.specs.Standing.{lent_in, bare_in, carried_in, tally_in, Idle, Shakes, DivesOn, GoesOn, kicked_from, restarted_from, turned_from};
 
 use crate::rounds::{keep_best, settle};
 use crate::tallies::{Tally, carried, counted, lesser, restart_after};
 use descent::{Descent, descend};
 use draws::draw;
+use journal::track::Track;
 use kicks::kick;
+use legs::matrix::Matrix;
+use legs::plan::Plan;
 use loads::load_round;
-use queue::Line;
-
-// A walk in the middle of a turn: the entries held, who waits, the carried time.
-#[derive(Clone, Copy)]
-pub struct Middle {
-    pub held: usize,
-    pub line: Line,
-    pub time: u32,
-}
+use work::work::Work;
 
 // Draws the kind of a turn's kick: one in 16 is global.
 fn choose_kind(state: &mut u64, kind: u32) -> u32
     requires { kind ≤ 2 }
     ensures { Chosen kind state.old state.new result }
 {
-    let first = draw(state, 0, 15);
-    if first == 0 { 2 } else { kind }
+    if draw(state, 0, 15) == 0 { 2 } else { kind }
 }
 
 // A kick: the time with the legs that came, without those that went.
-fn kick_on(
-    n: usize,
-    matrix: &[u16],
-    round: &mut [u32],
-    places: &mut [u32],
-    queue: &mut [u32],
-    flags: &mut [u8],
-    scratch: &mut [u32],
-    journal: &mut [u32],
-    state: &mut u64,
-    at: Middle,
-    kind: u32,
-) -> Middle
-    requires works { Works (bare n matrix.now round.old places.old queue.old flags.old scratch.old journal.old) (carrying at.line.head at.line.count at.held at.time) }
-    requires held_in_bounds { 5 * (at.held + 30) ≤ length journal.old }
-    requires kind_bound { kind ≤ 2 }
-    ensures { Shook (shaken (leg_in n matrix.now) 1 kind (state_in (bare n matrix.now round.old places.old queue.old flags.old scratch.old journal.old) (carrying at.line.head at.line.count at.held at.time)) state.old) (bare n matrix.now round.new places.new queue.new flags.new scratch.new journal.new) (carrying result.line.head result.line.count result.held result.time) state.new }
+fn kick_on(matrix: &Matrix, work: &mut Work, state: &mut u64, time: u32, kind: u32) -> u32
+    requires works { Works (bare_in matrix.now work.old) (carried_in work.old time) }
+    requires room { 5 * (work.old.track.now.held + 30) ≤ length work.old.track.now.journal.now }
+    requires kind_low { kind ≤ 2 }
+    ensures same { SameWork work.old work.new }
+    ensures shakes { Shakes matrix.now 1 kind work.old time state.old work.new result state.new }
 {
-    let k = kick(
-        matrix, round, places, scratch, journal, queue, flags, state, at.held, at.line, kind,
-    );
-    let l = k.line;
-    Middle {
-        held: k.held,
-        line: l,
-        time: at.time + k.added - k.removed,
-    }
+    let done = kick(matrix, work, state, kind);
+    time + done.added - done.removed
 }
 
 // A turn's kick and its kept descent.
 fn kick_and_descend(
-    n: usize,
-    k: usize,
-    ka: usize,
-    matrix: &[u16],
-    near: &[u32],
-    alpha: &[u32],
-    round: &mut [u32],
-    places: &mut [u32],
-    queue: &mut [u32],
-    flags: &mut [u8],
-    scratch: &mut [u32],
-    journal: &mut [u32],
+    plan: &Plan,
+    work: &mut Work,
     state: &mut u64,
     time: u32,
     step: u32,
     kind: u32,
     left: u32,
 ) -> Descent
-    requires works { Works (lending n k ka matrix.now near.now alpha.now round.old places.old queue.old flags.old scratch.old journal.old) (carrying 0 0 0 time) }
-    requires given { Given (lending n k ka matrix.now near.now alpha.now round.old places.old queue.old flags.old scratch.old journal.old) }
-    requires step_bound { step ≤ 2 }
-    requires kind_bound { kind ≤ 2 }
-    ensures { Dives (descend_of (plan_in (lending n k ka matrix.now near.now alpha.now round.old places.old queue.old flags.old scratch.old journal.old)) step (kept (room_in (lending n k ka matrix.now near.now alpha.now round.old places.old queue.old flags.old scratch.old journal.old))) left (kick_of (plan_in (lending n k ka matrix.now near.now alpha.now round.old places.old queue.old flags.old scratch.old journal.old)) kind round.old state.old).state) (kick_of (plan_in (lending n k ka matrix.now near.now alpha.now round.old places.old queue.old flags.old scratch.old journal.old)) kind round.old state.old).draw (lending n k ka matrix.now near.now alpha.now round.new places.new queue.new flags.new scratch.new journal.new) (carrying result.line.head result.line.count result.held result.time) result.left state.new }
+    requires works { Works (lent_in plan.now work.old) (carrying 0 0 0 time) }
+    requires given { Given (lent_in plan.now work.old) }
+    requires idle { Idle work.old }
+    requires step_low { step ≤ 2 }
+    requires kind_low { kind ≤ 2 }
+    ensures same { SameWork work.old work.new }
+    ensures dives { DivesOn plan.now step kind left work.old state.old work.new result.time result.left state.new }
 {
     let this = choose_kind(state, kind);
-    let at = kick_on(
-        n,
-        matrix,
-        round,
-        places,
-        queue,
-        flags,
-        scratch,
-        journal,
-        state,
-        Middle {
-            held: 0,
-            line: Line { head: 0, count: 0 },
-            time: time,
-        },
-        this,
-    );
-    descend(
-        matrix, near, k, alpha, ka, round, places, scratch, queue, flags, journal, at.held,
-        at.line, step, true, left, at.time,
-    )
+    let matrix = plan.matrix;
+    let kicked = kick_on(&matrix, work, state, time, this);
+    descend(plan, work, step, true, left, kicked)
 }
 
 // Records, the best round, and acceptance within the margin of the walk's record: commit, or the round given back.
 fn judge(
-    round: &mut [u32],
-    places: &mut [u32],
+    track: &mut Track,
     scratch: &mut [u32],
-    journal: &[u32],
     best: &mut [u32],
     t: Tally,
     slack: u32,
-    held: usize,
     time: u32,
     left: u32,
 ) -> Tally
-    requires tied { Tied round.old places.old }
-    requires scratch_len { length scratch.old ≡ length round.old }
-    requires held_value { good_journal (length round.old) journal.now held ≡ true }
-    requires best_len { length best.old ≡ length round.old }
-    requires stale_bound { (t.stale < 4294967295) × ((t.fails < 4294967295) × (t.kicks < 4294967295)) }
-    ensures { Judges slack time left (tallying t.time t.best t.walk t.stale t.fails t.kicks t.left) round.old (undo_all (entries_of journal.now held) round.old) best.old round.new places.new best.new (tallying result.time result.best result.walk result.stale result.fails result.kicks result.left) }
+    requires scratch_fits { length scratch.old ≡ length track.old.stops.now }
+    requires best_fits { length best.old ≡ length track.old.stops.now }
+    requires counts_low { (t.stale < 4294967295) × ((t.fails < 4294967295) × (t.kicks < 4294967295)) }
+    ensures same { SameTrack track.old track.new }
+    ensures judges { Judges slack time left (tally_in t) track.old.stops.now (undo_all (entries_of track.old.journal.now track.old.held) track.old.stops.now) best.old track.new.stops.now track.new.places.now best.new (tally_in result) }
+    ensures words { track.new.journal.now ≡ track.old.journal.now }
+    ensures none_held { track.new.held ≡ 0 }
 {
-    keep_best(time < t.best, round, best);
+    let stops = &mut *track.stops;
+    keep_best(time < t.best, stops, best);
     let walk = lesser(time, t.walk);
     let accept = time - walk <= slack;
-    settle(accept, round, places, scratch, journal, held);
+    settle(accept, track, scratch);
     Tally {
         time: carried(accept, time, t.time),
         best: lesser(time, t.best),
-        walk: walk,
+        walk,
         stale: counted(time < t.walk, t.stale + 1),
         fails: counted(time < t.best, t.fails + 1),
         kicks: t.kicks + 1,
-        left: left,
+        left,
     }
 }
 
 // A turn with a kick.
 fn kick_turn(
-    n: usize,
-    k: usize,
-    ka: usize,
-    matrix: &[u16],
-    near: &[u32],
-    alpha: &[u32],
-    round: &mut [u32],
-    places: &mut [u32],
-    queue: &mut [u32],
-    flags: &mut [u8],
-    scratch: &mut [u32],
-    journal: &mut [u32],
+    plan: &Plan,
+    work: &mut Work,
     best: &mut [u32],
     state: &mut u64,
     t: Tally,
@@ -173,132 +112,88 @@ fn kick_turn(
     step: u32,
     kind: u32,
 ) -> Tally
-    requires rests { Rests (lending n k ka matrix.now near.now alpha.now round.old places.old queue.old flags.old scratch.old journal.old) best.old t.time }
-    requires stale_bound { (t.stale < 4294967295) × ((t.fails < 4294967295) × (t.kicks < 4294967295)) }
-    requires step_bound { step ≤ 2 }
-    requires kind_bound { kind ≤ 2 }
-    ensures { Goes (kicked_once (plan_in (lending n k ka matrix.now near.now alpha.now round.old places.old queue.old flags.old scratch.old journal.old)) (told (lending n k ka matrix.now near.now alpha.now round.old places.old queue.old flags.old scratch.old journal.old) step kind false) slack (walk_in (lending n k ka matrix.now near.now alpha.now round.old places.old queue.old flags.old scratch.old journal.old) best.old (tallying t.time t.best t.walk t.stale t.fails t.kicks t.left) state.old)) (lending n k ka matrix.now near.now alpha.now round.new places.new queue.new flags.new scratch.new journal.new) best.new (tallying result.time result.best result.walk result.stale result.fails result.kicks result.left) state.new }
+    requires rests { Rests (lent_in plan.now work.old) best.old t.time }
+    requires idle { Idle work.old }
+    requires counts_low { (t.stale < 4294967295) × ((t.fails < 4294967295) × (t.kicks < 4294967295)) }
+    requires step_low { step ≤ 2 }
+    requires kind_low { kind ≤ 2 }
+    ensures same { SameWork work.old work.new }
+    ensures idle { Idle work.new }
+    ensures goes { GoesOn (kicked_from plan.now step kind slack work.old best.old t state.old) plan.now work.new best.new result state.new }
 {
-    let d = kick_and_descend(
-        n, k, ka, matrix, near, alpha, round, places, queue, flags, scratch, journal, state,
-        t.time, step, kind, t.left,
-    );
-    judge(
-        round, places, scratch, journal, best, t, slack, d.held, d.time, d.left,
-    )
+    let dived = kick_and_descend(plan, work, state, t.time, step, kind, t.left);
+    let track = &mut *work.track;
+    let scratch = &mut *work.scratch;
+    judge(track, scratch, best, t, slack, dived.time, dived.left)
 }
 
 // 32 kicks of kind 0, one after another.
-fn shake(
-    n: usize,
-    matrix: &[u16],
-    round: &mut [u32],
-    places: &mut [u32],
-    queue: &mut [u32],
-    flags: &mut [u8],
-    scratch: &mut [u32],
-    journal: &mut [u32],
-    state: &mut u64,
-    time: u32,
-) -> Middle
-    requires { Works (bare n matrix.now round.old places.old queue.old flags.old scratch.old journal.old) (carrying 0 0 0 time) }
-    ensures { Shook (shaken (leg_in n matrix.now) 32 0 (state_in (bare n matrix.now round.old places.old queue.old flags.old scratch.old journal.old) (carrying 0 0 0 time)) state.old) (bare n matrix.now round.new places.new queue.new flags.new scratch.new journal.new) (carrying result.line.head result.line.count result.held result.time) state.new }
+fn shake(matrix: &Matrix, work: &mut Work, state: &mut u64, time: u32) -> u32
+    requires works { Works (bare_in matrix.now work.old) (carrying 0 0 0 time) }
+    requires idle { Idle work.old }
+    ensures same { SameWork work.old work.new }
+    ensures shakes { Shakes matrix.now 32 0 work.old time state.old work.new result state.new }
 {
-    let mut at = Middle {
-        held: 0,
-        line: Line { head: 0, count: 0 },
-        time: time,
-    };
-    let mut i: usize = 0;
-    while i < 32 {
-        at = kick_on(
-            n, matrix, round, places, queue, flags, scratch, journal, state, at, 0,
-        );
-        i = i + 1;
+    let mut shaken = time;
+    for _kick in 0..32_usize {
+        shaken = kick_on(matrix, work, state, shaken, 0);
     }
-    at
+    shaken
 }
 
 // The best round laid anew, and shaken.
-fn reshape(
-    n: usize,
-    matrix: &[u16],
-    round: &mut [u32],
-    places: &mut [u32],
-    queue: &mut [u32],
-    flags: &mut [u8],
-    scratch: &mut [u32],
-    journal: &mut [u32],
-    best: &[u32],
-    state: &mut u64,
-) -> Middle
-    requires desk { Desk (bare n matrix.now round.old places.old queue.old flags.old scratch.old journal.old) }
+fn reshape(matrix: &Matrix, work: &mut Work, best: &[u32], state: &mut u64) -> u32
+    requires desk { Desk (bare_in matrix.now work.old) }
+    requires idle { Idle work.old }
     requires perm { Perm best.now }
-    requires best_len { length best.now ≡ n }
-    ensures { Shook (shaken (leg_in n matrix.now) 32 0 (load_of (recount (leg_in n matrix.now)) best.now) state.old) (bare n matrix.now round.new places.new queue.new flags.new scratch.new journal.new) (carrying result.line.head result.line.count result.held result.time) state.new }
+    requires best_fits { length best.now ≡ matrix.now.n }
+    ensures same { SameWork work.old work.new }
+    ensures shook { Shook (shaken (leg_in matrix.now.n matrix.now.times.now) 32 0 (load_of (recount (leg_in matrix.now.n matrix.now.times.now)) best.now) state.old) (bare_in matrix.now work.new) (carried_in work.new result) state.new }
 {
-    let time = load_round(matrix, round, places, flags, best);
-    shake(
-        n, matrix, round, places, queue, flags, scratch, journal, state, time,
-    )
+    let stops = &mut *work.track.stops;
+    let places = &mut *work.track.places;
+    let flags = &mut *work.queue.flags;
+    let time = load_round(matrix, stops, places, flags, best);
+    shake(matrix, work, state, time)
 }
 
 // A turn with a restart: no kick is counted, and the new walk has its own record.
 fn restart(
-    n: usize,
-    k: usize,
-    ka: usize,
-    matrix: &[u16],
-    near: &[u32],
-    alpha: &[u32],
-    round: &mut [u32],
-    places: &mut [u32],
-    queue: &mut [u32],
-    flags: &mut [u8],
-    scratch: &mut [u32],
-    journal: &mut [u32],
+    plan: &Plan,
+    work: &mut Work,
     best: &mut [u32],
     state: &mut u64,
     t: Tally,
     step: u32,
 ) -> Tally
-    requires rests { Rests (lending n k ka matrix.now near.now alpha.now round.old places.old queue.old flags.old scratch.old journal.old) best.old t.time }
-    requires step_bound { step ≤ 2 }
-    ensures { Goes (restarted (plan_in (lending n k ka matrix.now near.now alpha.now round.old places.old queue.old flags.old scratch.old journal.old)) (told (lending n k ka matrix.now near.now alpha.now round.old places.old queue.old flags.old scratch.old journal.old) step 0 false) (walk_in (lending n k ka matrix.now near.now alpha.now round.old places.old queue.old flags.old scratch.old journal.old) best.old (tallying t.time t.best t.walk t.stale t.fails t.kicks t.left) state.old)) (lending n k ka matrix.now near.now alpha.now round.new places.new queue.new flags.new scratch.new journal.new) best.new (tallying result.time result.best result.walk result.stale result.fails result.kicks result.left) state.new }
+    requires rests { Rests (lent_in plan.now work.old) best.old t.time }
+    requires idle { Idle work.old }
+    requires step_low { step ≤ 2 }
+    ensures same { SameWork work.old work.new }
+    ensures idle { Idle work.new }
+    ensures goes { GoesOn (restarted_from plan.now step work.old best.old t state.old) plan.now work.new best.new result state.new }
 {
-    let at = reshape(
-        n, matrix, round, places, queue, flags, scratch, journal, best, state,
-    );
-    let d = descend(
-        matrix, near, k, alpha, ka, round, places, scratch, queue, flags, journal, at.held,
-        at.line, step, false, t.left, at.time,
-    );
-    keep_best(d.time < t.best, round, best);
+    let matrix = plan.matrix;
+    let shaken = reshape(&matrix, work, best, state);
+    let dived = descend(plan, work, step, false, t.left, shaken);
+    let track = &mut *work.track;
+    let stops = &mut *track.stops;
+    keep_best(dived.time < t.best, stops, best);
     Tally {
-        time: d.time,
-        best: lesser(d.time, t.best),
-        walk: d.time,
+        time: dived.time,
+        best: lesser(dived.time, t.best),
+        walk: dived.time,
         stale: 0,
-        fails: counted(d.time < t.best, t.fails),
+        fails: counted(dived.time < t.best, t.fails),
         kicks: t.kicks,
-        left: d.left,
+        left: dived.left,
     }
 }
 
 // A restart where one is due, else a kick.
 pub fn turn(
-    n: usize,
-    k: usize,
-    ka: usize,
-    matrix: &[u16],
-    near: &[u32],
-    alpha: &[u32],
-    round: &mut [u32],
-    places: &mut [u32],
-    queue: &mut [u32],
-    flags: &mut [u8],
-    scratch: &mut [u32],
-    journal: &mut [u32],
+    plan: &Plan,
+    work: &mut Work,
     best: &mut [u32],
     state: &mut u64,
     t: Tally,
@@ -306,21 +201,19 @@ pub fn turn(
     step: u32,
     kind: u32,
 ) -> Tally
-    requires rests { Rests (lending n k ka matrix.now near.now alpha.now round.old places.old queue.old flags.old scratch.old journal.old) best.old t.time }
-    requires counts { Counts (tallying t.time t.best t.walk t.stale t.fails t.kicks t.left) }
+    requires rests { Rests (lent_in plan.now work.old) best.old t.time }
+    requires idle { Idle work.old }
+    requires counts { Counts (tally_in t) }
     requires left_nonzero { 0 < t.left }
-    requires step_bound { step ≤ 2 }
-    requires kind_bound { kind ≤ 2 }
-    ensures { Goes (turned (plan_in (lending n k ka matrix.now near.now alpha.now round.old places.old queue.old flags.old scratch.old journal.old)) (told (lending n k ka matrix.now near.now alpha.now round.old places.old queue.old flags.old scratch.old journal.old) step kind false) slack (walk_in (lending n k ka matrix.now near.now alpha.now round.old places.old queue.old flags.old scratch.old journal.old) best.old (tallying t.time t.best t.walk t.stale t.fails t.kicks t.left) state.old)) (lending n k ka matrix.now near.now alpha.now round.new places.new queue.new flags.new scratch.new journal.new) best.new (tallying result.time result.best result.walk result.stale result.fails result.kicks result.left) state.new }
+    requires step_low { step ≤ 2 }
+    requires kind_low { kind ≤ 2 }
+    ensures same { SameWork work.old work.new }
+    ensures idle { Idle work.new }
+    ensures goes { GoesOn (turned_from plan.now step kind slack work.old best.old t state.old) plan.now work.new best.new result state.new }
 {
-    if t.stale < restart_after(n) {
-        return kick_turn(
-            n, k, ka, matrix, near, alpha, round, places, queue, flags, scratch, journal, best,
-            state, t, slack, step, kind,
-        );
+    if t.stale < restart_after(plan.matrix.n) {
+        kick_turn(plan, work, best, state, t, slack, step, kind)
+    } else {
+        restart(plan, work, best, state, t, step)
     }
-    restart(
-        n, k, ka, matrix, near, alpha, round, places, queue, flags, scratch, journal, best, state,
-        t, step,
-    )
 }

@@ -1,5 +1,5 @@
 use Rattle.descent.proofs.RunningLaws.{descended}
 use Rattle.descent.proofs.descend.Goals as goal
 
-pub returns : goal.returns
-returns c = let a = c.args in descended a.keeps _ c.run-d.ensures c.clear_queue-d.ensures
+pub returns-clause-descended : goal.returns-clause-descended
+returns-clause-descended c = descended c.args.keeps _ c.run-descent.ensures.ended c.clear.ensures.waits
