@@ -82,7 +82,11 @@ impl<'a> Round<'a> {
         requires { v.0 < length self.now.stops.now }
         ensures { Is (length self.now.stops.now) (beside_of fwd self.now.stops.now after v.0) result.0 }
     {
-        if after { self.ahead(fwd, v) } else { self.behind(fwd, v) }
+        if after {
+            self.ahead(fwd, v)
+        } else {
+            self.behind(fwd, v)
+        }
     }
 
     // Stop b lies on the way forward from stop a to stop c, ends included.
