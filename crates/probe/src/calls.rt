@@ -33,15 +33,18 @@ pub extern "C" fn probe_load(
         held: *held,
         time: *time,
     };
-    let answer = planner::load(
+    match planner::load(
         n, k, ka, matrix, near, alpha, round, places, queue, flags, scratch, journal, state, start,
-    );
-    let left = answer.state;
-    *head = left.head;
-    *count = left.count;
-    *held = left.held;
-    *time = left.time;
-    answer.number
+    ) {
+        Ok(left) => {
+            *head = left.head;
+            *count = left.count;
+            *held = left.held;
+            *time = left.time;
+            0
+        }
+        Err(refusal) => refusal.number(),
+    }
 }
 
 // Empties the journal, and keeps the queue.
@@ -72,15 +75,18 @@ pub extern "C" fn probe_commit(
         held: *held,
         time: *time,
     };
-    let answer = planner::commit(
+    match planner::commit(
         n, k, ka, matrix, near, alpha, round, places, queue, flags, scratch, journal, state,
-    );
-    let left = answer.state;
-    *head = left.head;
-    *count = left.count;
-    *held = left.held;
-    *time = left.time;
-    answer.number
+    ) {
+        Ok(left) => {
+            *head = left.head;
+            *count = left.count;
+            *held = left.held;
+            *time = left.time;
+            0
+        }
+        Err(refusal) => refusal.number(),
+    }
 }
 
 // Gives back the last commit's round.
@@ -111,15 +117,18 @@ pub extern "C" fn probe_undo(
         held: *held,
         time: *time,
     };
-    let answer = planner::undo(
+    match planner::undo(
         n, k, ka, matrix, near, alpha, round, places, queue, flags, scratch, journal, state,
-    );
-    let left = answer.state;
-    *head = left.head;
-    *count = left.count;
-    *held = left.held;
-    *time = left.time;
-    answer.number
+    ) {
+        Ok(left) => {
+            *head = left.head;
+            *count = left.count;
+            *held = left.held;
+            *time = left.time;
+            0
+        }
+        Err(refusal) => refusal.number(),
+    }
 }
 
 // Kicks: the signed change in time is left in `change`. Proved safe; `planner::kick` has the promise.
@@ -151,18 +160,23 @@ pub extern "C" fn probe_kick(
         held: *held,
         time: *time,
     };
-    let answer = planner::kick(
+    match planner::kick(
         n, k, ka, matrix, near, alpha, round, places, queue, flags, scratch, journal, state, kind,
         draw,
-    );
-    let left = answer.state;
-    let by = answer.change;
-    *change = by;
-    *head = left.head;
-    *count = left.count;
-    *held = left.held;
-    *time = left.time;
-    answer.number
+    ) {
+        Ok(kicked) => {
+            *change = kicked.change;
+            *head = kicked.state.head;
+            *count = kicked.state.count;
+            *held = kicked.state.held;
+            *time = kicked.state.time;
+            0
+        }
+        Err(refusal) => {
+            *change = 0;
+            refusal.number()
+        }
+    }
 }
 
 // Descends: what the time fell by, the stops taken and how it ended are left in `gain`, `units` and `ended`. Proved safe; `planner::descend` has
@@ -198,17 +212,25 @@ pub extern "C" fn probe_descend(
         held: *held,
         time: *time,
     };
-    let answer = planner::descend(
+    match planner::descend(
         n, k, ka, matrix, near, alpha, round, places, queue, flags, scratch, journal, state, keeps,
         step, budget,
-    );
-    let left = answer.state;
-    *gain = answer.gain;
-    *units = answer.units;
-    *ended = answer.ended;
-    *head = left.head;
-    *count = left.count;
-    *held = left.held;
-    *time = left.time;
-    answer.number
+    ) {
+        Ok(descent) => {
+            *gain = descent.gain;
+            *units = descent.units;
+            *ended = descent.ended;
+            *head = descent.state.head;
+            *count = descent.state.count;
+            *held = descent.state.held;
+            *time = descent.state.time;
+            0
+        }
+        Err(refusal) => {
+            *gain = 0;
+            *units = 0;
+            *ended = 0;
+            refusal.number()
+        }
+    }
 }
