@@ -120,7 +120,7 @@ pub fn global_kick(matrix: &Matrix, work: &mut Work, state: &mut u64) -> Kicked
     }
 }
 
-// A kick: 0 segments X Y Z, 1 segments X Z, 2 global; numbers, as the C interface and the sheets have them.
+// A kick: 0 segments X Y Z, 1 segments X Z, 2 global; a number, as the planner is told it.
 #[tactic(auto, using(laws::proofs::KickKindLaws::kind_stays))]
 pub fn kick(matrix: &Matrix, work: &mut Work, state: &mut u64, kind: u32) -> Kicked
     requires ready { Ready 30 matrix.now work.old }
