@@ -74,7 +74,7 @@ impl Left<'_> {
         let Some(entries) = rest.get(..beyond - first) else {
             return false;
         };
-        kept.starts_with(before) && record.are(entries)
+        kept.starts_with(before) && record.gives(entries)
     }
 }
 
@@ -94,7 +94,7 @@ impl Outcome {
         let left = work.left(&session.lengths);
         let state = self.state;
         *self == *answer
-            && record.are(left.round)
+            && record.gives(left.round)
             && left.is_placed()
             && left.has_waiting(record, state.head, state.count.min(STOPS))
             && left.has_flagged(state.count)

@@ -1,4 +1,7 @@
 // Damage to what is lent, and its repair: a word is set, a slice is cut or grown with 0, or a number that goes in by value is put.
+ghost use Rattle.std.specs.Prelude.{◌≡◌, ◌<◌, IfSome, IsNone};
+ghost use Rattle.lending.specs.Names.{slice_number, number_name};
+
 use crate::memory::Memory;
 use crate::reader::Reader;
 use crate::session::{Lengths, Session};
@@ -46,7 +49,10 @@ pub enum Damage {
 
 impl Slice {
     // The slice of a number, if there is one.
-    pub fn from_number(number: u32) -> Option<Slice> {
+    pub fn from_number(number: u32) -> Option<Slice>
+        ensures known { IfSome result (λ s. slice_number s ≡ number) }
+        ensures unknown { IsNone result → 8 < number }
+    {
         match number {
             0 => Some(Slice::Matrix),
             1 => Some(Slice::Near),
@@ -64,7 +70,10 @@ impl Slice {
 
 impl Number {
     // What a number names, if it names something.
-    pub fn from_number(number: u32) -> Option<Number> {
+    pub fn from_number(number: u32) -> Option<Number>
+        ensures known { IfSome result (λ s. number_name s ≡ number) }
+        ensures unknown { IsNone result → 7 < number }
+    {
         match number {
             0 => Some(Number::N),
             1 => Some(Number::K),

@@ -1,4 +1,6 @@
 // The memory that calls are lent, from the start of each slice as much as the session says.
+ghost use Rattle.std.specs.Prelude.{◌≡◌, take};
+
 use std::alloc::{AllocError, Global};
 
 // No record gets more than this of each slice.
@@ -72,12 +74,16 @@ impl Work {
 }
 
 // As much of a slice as is lent to be read.
-pub fn lent<T>(words: &[T], count: usize) -> &[T] {
+pub fn lent<T>(words: &[T], count: usize) -> &[T]
+    ensures { result.now ≡ take count words.now }
+{
     &words[..count.min(words.len())]
 }
 
 // As much of a slice as is lent to be written.
-pub fn lent_mut<T>(words: &mut [T], count: usize) -> &mut [T] {
+pub fn lent_mut<T>(words: &mut [T], count: usize) -> &mut [T]
+    ensures { result.now ≡ take count words.old }
+{
     let end = count.min(words.len());
     &mut words[..end]
 }

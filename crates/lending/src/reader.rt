@@ -1,19 +1,37 @@
 // Numbers in the bytes of a record, one after another, least byte first. Bytes past the end count as 0.
+ghost use Rattle.std.specs.Prelude.{◌≡◌, drop};
+ghost use Rattle.std.specs.Int.{w8, w16, w32, w64, from_le_bytes};
+ghost use Rattle.lending.specs.Reading.{next_bytes};
 
-// Where a record is read.
-#[derive(Clone, Copy)]
+use std::marker::Model;
+
+// A record that is read: the bytes that are left of it.
+#[derive(Drop)]
 pub struct Reader<'a> {
     rest: &'a [u8],
 }
 
+impl<'a> Model for Reader<'a> {
+    ghost use Rattle.std.specs.Prelude.{ℕ, List};
+
+    ghost Value = { List ℕ };
+
+    ghost view = { λ r. r.rest.now };
+}
+
 impl<'a> Reader<'a> {
     // At the head of a record.
-    pub fn new(record: &'a [u8]) -> Reader<'a> {
-        Reader { rest: record }
+    pub fn new(bytes: &'a [u8]) -> Reader<'a>
+        ensures { result ≡ bytes.now }
+    {
+        Reader { rest: bytes }
     }
 
     // The next bytes.
-    fn bytes<const N: usize>(&mut self) -> [u8; N] {
+    fn bytes<const N: usize>(&mut self) -> [u8; N]
+        ensures next { result ≡ next_bytes N self.old }
+        ensures rest { self.new ≡ drop N self.old }
+    {
         let mut bytes = [0; N];
         let count = self.rest.len().min(N);
         let (next, rest) = self.rest.split_at(count);
@@ -23,32 +41,49 @@ impl<'a> Reader<'a> {
     }
 
     // The next 8 bits.
-    pub fn octet(&mut self) -> u8 {
+    pub fn octet(&mut self) -> u8
+        ensures value { result ≡ from_le_bytes w8 (next_bytes 1 self.old) }
+        ensures rest { self.new ≡ drop 1 self.old }
+    {
         u8::from_le_bytes(self.bytes())
     }
 
     // The next 16 bits.
-    pub fn half(&mut self) -> u16 {
+    pub fn half(&mut self) -> u16
+        ensures value { result ≡ from_le_bytes w16 (next_bytes 2 self.old) }
+        ensures rest { self.new ≡ drop 2 self.old }
+    {
         u16::from_le_bytes(self.bytes())
     }
 
     // The next 32 bits.
-    pub fn word(&mut self) -> u32 {
+    pub fn word(&mut self) -> u32
+        ensures value { result ≡ from_le_bytes w32 (next_bytes 4 self.old) }
+        ensures rest { self.new ≡ drop 4 self.old }
+    {
         u32::from_le_bytes(self.bytes())
     }
 
     // The next 32 bits, as a length or an index.
-    pub fn size(&mut self) -> usize {
+    pub fn size(&mut self) -> usize
+        ensures value { result ≡ from_le_bytes w32 (next_bytes 4 self.old) }
+        ensures rest { self.new ≡ drop 4 self.old }
+    {
         self.word() as usize
     }
 
     // The next 64 bits.
-    pub fn long(&mut self) -> u64 {
+    pub fn long(&mut self) -> u64
+        ensures value { result ≡ from_le_bytes w64 (next_bytes 8 self.old) }
+        ensures rest { self.new ≡ drop 8 self.old }
+    {
         u64::from_le_bytes(self.bytes())
     }
 
     // Passes over bytes.
-    pub fn skip(&mut self, count: usize) {
+    pub fn skip(&mut self, count: usize)
+        ensures { self.new ≡ drop count self.old }
+    {
         self.rest = self.rest.get(count..).unwrap_or(&[]);
     }
 
@@ -60,7 +95,7 @@ impl<'a> Reader<'a> {
     }
 
     // Whether words are the next 16 bits each.
-    pub fn are(&mut self, words: &[u32]) -> bool {
+    pub fn gives(&mut self, words: &[u32]) -> bool {
         words.iter().all(|word| *word == u32::from(self.half()))
     }
 }

@@ -66,11 +66,7 @@ impl Outcome {
         Outcome {
             number,
             state,
-            change: 0,
-            gain: 0,
-            units: 0,
-            ended: 0,
-            kicks: 0,
+            ..Outcome::default()
         }
     }
 }

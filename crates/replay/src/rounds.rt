@@ -17,7 +17,7 @@ fn is_written(words: &[u32], first: usize) -> bool {
 // Whether the round is as answered, or as it was filled where the answer is a refusal.
 fn is_round(record: &mut Reader, case: &Case, round: &[u32]) -> bool {
     if case.number == 0 {
-        record.are(round)
+        record.gives(round)
     } else {
         is_written(round, 0)
     }
