@@ -1,4 +1,7 @@
 // What a call gave, and what it left in lent memory, against what the oracle answered. Places and flags follow from round and queue.
+ghost use Rattle.std.specs.Prelude.{◌≡◌, ◌≢◌, IsTrue};
+ghost use Rattle.lending.specs.Results.{HasNoResult, HasSameWords};
+
 use crate::memory::{STOPS, Work, lent};
 use crate::reader::Reader;
 use crate::session::{Lengths, Session};
@@ -18,6 +21,13 @@ struct Left<'a> {
 }
 
 impl Work {
+    // Whether it holds the same words as what was kept of it.
+    fn is_kept(&self, kept: &Work) -> bool
+        ensures { IsTrue result → HasSameWords self.now kept.now }
+    {
+        *self == *kept
+    }
+
     // As much of it as is lent. No round is longer than the memory for its places.
     fn left(&self, lengths: &Lengths) -> Left<'_> {
         Left {
@@ -87,9 +97,15 @@ impl Outcome {
         session: &Session,
         work: &Work,
         kept: &Work,
-    ) -> bool {
+    ) -> bool
+        ensures given { IsTrue result → answer.now.number ≡ 0 → self.now ≡ answer.now }
+        ensures number { IsTrue result → self.now.number ≡ answer.now.number }
+        ensures state { IsTrue result → answer.now.number ≢ 0 → self.now.state ≡ session.now.state }
+        ensures no_result { IsTrue result → answer.now.number ≢ 0 → HasNoResult self.now }
+        ensures untouched { IsTrue result → answer.now.number ≢ 0 → HasSameWords work.now kept.now }
+    {
         if answer.number != 0 {
-            return *self == Outcome::refused(session, answer.number) && *work == *kept;
+            return *self == Outcome::refused(session, answer.number) && work.is_kept(kept);
         }
         let left = work.left(&session.lengths);
         let state = self.state;

@@ -1,5 +1,5 @@
 // The memory that calls are lent, from the start of each slice as much as the session says.
-ghost use Rattle.std.specs.Prelude.{◌≡◌, take};
+ghost use Rattle.std.specs.Prelude.{◌≡◌, take, replicate, vec_len, IfOk};
 
 use std::alloc::{AllocError, Global};
 
@@ -63,7 +63,14 @@ impl Memory {
 
 impl Work {
     // Every word is 0.
-    pub fn clear(&mut self) {
+    pub fn clear(&mut self)
+        ensures round { self.new.round.items ≡ replicate (vec_len self.old.round) 0 }
+        ensures places { self.new.places.items ≡ replicate (vec_len self.old.places) 0 }
+        ensures queue { self.new.queue.items ≡ replicate (vec_len self.old.queue) 0 }
+        ensures flags { self.new.flags.items ≡ replicate (vec_len self.old.flags) 0 }
+        ensures scratch { self.new.scratch.items ≡ replicate (vec_len self.old.scratch) 0 }
+        ensures journal { self.new.journal.items ≡ replicate (vec_len self.old.journal) 0 }
+    {
         self.round.fill(0);
         self.places.fill(0);
         self.queue.fill(0);

@@ -1,5 +1,6 @@
 // What a record sets up: the matrix, by its rule, and the lists.
-ghost use Rattle.std.specs.Prelude.{◌≤◌};
+ghost use Rattle.std.specs.Prelude.{◌≡◌, ◌≤◌, IfOk};
+ghost use Rattle.lending.specs.Results.{IsFresh};
 
 use crate::memory::{Memory, Plan, STOPS, lent_mut};
 use crate::range::Range;
@@ -137,7 +138,9 @@ fn make_matrix(
 
 impl Session {
     // What the head of a record sets up: nobody waits, no entry is held, and the time is 0.
-    fn read(record: &mut Reader) -> (Session, Recipe) {
+    fn read(record: &mut Reader) -> (Session, Recipe)
+        ensures { IsFresh result.0 }
+    {
         let n = record.size();
         let k = record.size();
         let ka = record.size();
@@ -178,7 +181,9 @@ pub fn set_up(
     alloc: Global,
     record: &mut Reader,
     memory: &mut Memory,
-) -> Result<Session, AllocError> {
+) -> Result<Session, AllocError>
+    ensures { IfOk result IsFresh }
+{
     let (session, recipe) = Session::read(record);
     let plan = &mut memory.plan;
     let matrix = lent_mut(&mut plan.matrix, session.lengths.matrix);

@@ -1,4 +1,7 @@
 // What a record says of a call: its kind and arguments, and what the oracle answered.
+ghost use Rattle.std.specs.Prelude.{◌≡◌};
+ghost use Rattle.lending.specs.Results.{HasNoResult};
+
 use crate::reader::Reader;
 use crate::session::{Session, State};
 
@@ -57,12 +60,20 @@ impl Call {
 
 impl Outcome {
     // The outcome of a refusal: the state as it came, and 0 in every result.
-    pub fn refused(session: &Session, number: u32) -> Outcome {
+    pub fn refused(session: &Session, number: u32) -> Outcome
+        ensures number { result.number ≡ number }
+        ensures state { result.state ≡ session.now.state }
+        ensures no_result { HasNoResult result }
+    {
         Outcome::settled(number, session.state)
     }
 
     // The outcome of a call that gives a state and no more.
-    pub fn settled(number: u32, state: State) -> Outcome {
+    pub fn settled(number: u32, state: State) -> Outcome
+        ensures number { result.number ≡ number }
+        ensures state { result.state ≡ state }
+        ensures no_result { HasNoResult result }
+    {
         Outcome {
             number,
             state,
