@@ -1,7 +1,7 @@
 // Numbers in the bytes of a record, one after another, least byte first. Bytes past the end count as 0.
-ghost use Rattle.std.specs.Prelude.{◌≡◌, drop};
+ghost use Rattle.std.specs.Prelude.{◌≡◌, ℕ, ◌*◌, ◌<◌, IsTrue, drop, length, slice_index_or};
 ghost use Rattle.std.specs.Int.{w8, w16, w32, w64, from_le_bytes};
-ghost use Rattle.lending.specs.Reading.{next_bytes};
+ghost use Rattle.lending.specs.Reading.{next_bytes, half_at, Gives};
 
 use std::marker::Model;
 
@@ -88,14 +88,25 @@ impl<'a> Reader<'a> {
     }
 
     // Fills words with the next 16 bits each.
-    pub fn fill<T: From<u16> + Drop>(&mut self, words: &mut [T]) {
+    pub fn fill<T: From<u16> + Drop>(&mut self, words: &mut [T])
+        ensures words { (k : ℕ) (d : T) → k < length words.old → T.from_gives (half_at self.old k) (slice_index_or words.new k d) }
+        ensures rest { self.new ≡ drop (2 * length words.old) self.old }
+    {
         for word in words {
             *word = T::from(self.half());
         }
     }
 
     // Whether words are the next 16 bits each.
-    pub fn gives(&mut self, words: &[u32]) -> bool {
-        words.iter().all(|word| *word == u32::from(self.half()))
+    pub fn gives(&mut self, words: &[u32]) -> bool
+        ensures same { IsTrue result → Gives self.old words.now (length words.now) }
+        ensures rest { IsTrue result → self.new ≡ drop (2 * length words.now) self.old }
+    {
+        for word in words {
+            if *word != u32::from(self.half()) {
+                return false;
+            }
+        }
+        true
     }
 }
