@@ -16,5 +16,5 @@ gives_next bytes words i below last k h = grind arith
 pub holds_next : {A : Type 0} (P : ℕ → A → Type 0) (xs : List A) (i : ℕ) (x : A) → i < length xs → ((k : ℕ) (d : A) → k < i → P k (slice_index_or xs k d)) → P i x → (k : ℕ) (d : A) → k < i + 1 → P k (slice_index_or (slice_set xs i x) k d)
 holds_next P xs i x room below last k d h =
     below_more (λ j. P j (slice_index_or (slice_set xs i x) j d)) i
-      (λ j g. rw (get_or-set_other xs i j x d (omega (arith, g))) (below j d g))
-      (rw (get_or-set_same xs i x d room) last) k h
+    (λ j g. rw (get_or-set_other xs i j x d (omega (arith, g))) (below j d g))
+    (rw (get_or-set_same xs i x d room) last) k h

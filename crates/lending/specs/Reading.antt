@@ -1,5 +1,5 @@
 -- What a record gives next. Assumes nothing.
-use Rattle.std.specs.Prelude.{ℕ, List, ◌++◌, ◌≡◌, ◌<◌, ◌*◌, take, drop, replicate, slice_index}
+use Rattle.std.specs.Prelude.{ℕ, List, ◌++◌, ◌≡◌, ◌<◌, ◌*◌, take, drop, length, replicate, slice_index}
 use Rattle.std.specs.Int.{w16, from_le_bytes}
 
 -- the next bytes of a record, and 0 for each past its end
@@ -13,3 +13,7 @@ half_at bytes k = from_le_bytes w16 (next_bytes 2 (drop (2 * k) bytes))
 -- the first words are the next 16 bits of a record each
 abbrev pub Gives : List ℕ → List ℕ → ℕ → Type 0
 Gives bytes words first = (k : ℕ) → k < first → slice_index words k ≡ half_at bytes k
+
+-- all words are
+abbrev pub IsNext : List ℕ → List ℕ → Type 0
+IsNext bytes words = Gives bytes words (length words)

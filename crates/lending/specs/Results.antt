@@ -1,6 +1,7 @@
 -- The results of a call. Assumes nothing.
-use Rattle.std.specs.Prelude.{◌≡◌, pos}
+use Rattle.std.specs.Prelude.{ℕ, List, ◌≡◌, pos, take, min}
 use Rattle.lending.specs.declared.memory.Work.{Work}
+use Rattle.lending.specs.declared.session.Lengths.{Lengths}
 use Rattle.lending.specs.declared.session.Session.{Session}
 use Rattle.lending.specs.declared.told.Outcome.{Outcome}
 
@@ -29,3 +30,7 @@ pub record HasSameWords (work kept : Work) : Type 0 where
   pub flags : work.flags.items ≡ kept.flags.items
   pub scratch : work.scratch.items ≡ kept.scratch.items
   pub journal : work.journal.items ≡ kept.journal.items
+
+-- as much of the round as is lent: no more than there are places for
+abbrev pub round_lent : Work → Lengths → List ℕ
+round_lent work lengths = take (min lengths.round 1100) work.round.items

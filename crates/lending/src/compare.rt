@@ -1,6 +1,7 @@
 // What a call gave, and what it left in lent memory, against what the oracle answered. Places and flags follow from round and queue.
 ghost use Rattle.std.specs.Prelude.{◌≡◌, ◌≢◌, IsTrue};
-ghost use Rattle.lending.specs.Results.{HasNoResult, HasSameWords};
+ghost use Rattle.lending.specs.Reading.{IsNext};
+ghost use Rattle.lending.specs.Results.{HasNoResult, HasSameWords, round_lent};
 
 use crate::memory::{STOPS, Work, lent};
 use crate::reader::Reader;
@@ -29,7 +30,9 @@ impl Work {
     }
 
     // As much of it as is lent. No round is longer than the memory for its places.
-    fn left(&self, lengths: &Lengths) -> Left<'_> {
+    fn left(&self, lengths: &Lengths) -> Left<'_>
+        ensures { result.round.now ≡ round_lent self.now lengths.now }
+    {
         Left {
             round: lent(&self.round, lengths.round.min(STOPS)),
             places: lent(&self.places, lengths.places),
@@ -99,6 +102,7 @@ impl Outcome {
         kept: &Work,
     ) -> bool
         ensures given { IsTrue result → answer.now.number ≡ 0 → self.now ≡ answer.now }
+        ensures round { IsTrue result → answer.now.number ≡ 0 → IsNext «record».old (round_lent work.now session.now.lengths) }
         ensures number { IsTrue result → self.now.number ≡ answer.now.number }
         ensures state { IsTrue result → answer.now.number ≢ 0 → self.now.state ≡ session.now.state }
         ensures no_result { IsTrue result → answer.now.number ≢ 0 → HasNoResult self.now }

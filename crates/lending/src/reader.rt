@@ -1,7 +1,7 @@
 // Numbers in the bytes of a record, one after another, least byte first. Bytes past the end count as 0.
 ghost use Rattle.std.specs.Prelude.{◌≡◌, ℕ, ◌*◌, ◌<◌, IsTrue, drop, length, slice_index_or};
 ghost use Rattle.std.specs.Int.{w8, w16, w32, w64, from_le_bytes};
-ghost use Rattle.lending.specs.Reading.{next_bytes, half_at, Gives};
+ghost use Rattle.lending.specs.Reading.{next_bytes, half_at, IsNext};
 
 use std::marker::Model;
 
@@ -99,7 +99,7 @@ impl<'a> Reader<'a> {
 
     // Whether words are the next 16 bits each.
     pub fn gives(&mut self, words: &[u32]) -> bool
-        ensures same { IsTrue result → Gives self.old words.now (length words.now) }
+        ensures same { IsTrue result → IsNext self.old words.now }
         ensures rest { IsTrue result → self.new ≡ drop (2 * length words.now) self.old }
     {
         for word in words {
