@@ -1,5 +1,6 @@
 -- The results of a call. Assumes nothing.
 use Rattle.std.specs.Prelude.{ℕ, List, ◌≡◌, pos, take, min}
+use Rattle.lending.specs.declared.memory.TheConstants.{STOPS}
 use Rattle.lending.specs.declared.memory.Work.{Work}
 use Rattle.lending.specs.declared.session.Lengths.{Lengths}
 use Rattle.lending.specs.declared.session.Session.{Session}
@@ -33,4 +34,4 @@ pub record HasSameWords (work kept : Work) : Type 0 where
 
 -- as much of the round as is lent: no more than there are places for
 abbrev pub round_lent : Work → Lengths → List ℕ
-round_lent work lengths = take (min lengths.round 1100) work.round.items
+round_lent work lengths = take (min lengths.round STOPS) work.round.items

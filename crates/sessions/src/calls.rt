@@ -1,4 +1,7 @@
 // One call over lent memory, as a record tells it, and whether it gave what the oracle answered.
+ghost use Rattle.std.specs.Prelude.{OnOk};
+ghost use Rattle.sessions.specs.Records.{MovesOn};
+
 use lending::memory::{Memory, STOPS, lent, lent_mut};
 use lending::reader::Reader;
 use lending::session::{Session, State};
@@ -111,7 +114,9 @@ pub fn meet(
     session: &mut Session,
     record: &mut Reader,
     memory: &mut Memory,
-) -> Result<Met, AllocError> {
+) -> Result<Met, AllocError>
+    ensures { OnOk result (MovesOn session.old session.new) }
+{
     let told = Told::read(record);
     let mut start = vec![in alloc; 0u32; told.starts.min(STOPS)]?;
     record.fill(&mut start);

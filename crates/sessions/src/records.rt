@@ -1,4 +1,7 @@
 // The records of a session: one sets up what is lent, others damage it or call.
+ghost use Rattle.std.specs.Prelude.{◌≡◌, ◌≢◌, IfOk, IfSome, IsNone, IsSome};
+ghost use Rattle.sessions.specs.Records.{kind_number};
+
 use crate::calls::{Met, meet};
 use lending::damage::Damage;
 use lending::memory::Memory;
@@ -17,7 +20,10 @@ pub enum Kind {
 
 impl Kind {
     // The kind of a number, if it is one of a session.
-    pub fn from_number(number: u8) -> Option<Kind> {
+    pub fn from_number(number: u8) -> Option<Kind>
+        ensures known { IfSome result (λ k. kind_number k ≡ number) }
+        ensures unknown { IsNone result → (number ≢ 3) × (number ≢ 4) × (number ≢ 5) }
+    {
         match number {
             3 => Some(Kind::SetUp),
             4 => Some(Kind::Damage),
@@ -34,7 +40,10 @@ pub fn follow(
     memory: &mut Memory,
     kind: Kind,
     record: &[u8],
-) -> Result<Option<Met>, AllocError> {
+) -> Result<Option<Met>, AllocError>
+    ensures call { IfOk result (λ met. IsSome met → kind ≡ Kind.Call) }
+    ensures no_call { IfOk result (λ met. IsNone met → kind ≢ Kind.Call) }
+{
     let mut record = Reader::new(record);
     match kind {
         Kind::SetUp => {
