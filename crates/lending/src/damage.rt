@@ -102,7 +102,7 @@ impl Damage {
         }
     }
 
-    // Does it.
+    // Does it to what is lent.
     pub fn apply(self, session: &mut Session, memory: &mut Memory) {
         match self {
             Damage::Strike(slice, change) => memory.strike(&mut session.lengths, slice, change),

@@ -1,4 +1,5 @@
-// The memory that calls are lent, from the start of each slice as much as the session says.
+// The memory that calls are lent, from the start of each slice as much as the session says. It is on the heap: no crate but the program
+// `replay` and its library of calls stands on it. Each slice keeps its whole length, since what lies beyond what is lent stays for later.
 ghost use Rattle.std.specs.Prelude.{◌≡◌, take, replicate, vec_len, IfOk};
 
 use std::alloc::{AllocError, Global};

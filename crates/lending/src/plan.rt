@@ -2,7 +2,7 @@
 ghost use Rattle.std.specs.Prelude.{◌≡◌, ◌≤◌, IfOk};
 ghost use Rattle.lending.specs.Results.{IsFresh};
 
-use crate::memory::{Memory, Plan, STOPS, lent_mut};
+use crate::memory::{Memory, STOPS, lent_mut};
 use crate::range::Range;
 use crate::reader::Reader;
 use crate::session::{Lengths, Session, State};
@@ -53,6 +53,37 @@ impl Recipe {
             diagonal,
             seed,
         }
+    }
+
+    // Makes the matrix. Its cells may stand in the record; stops past the memory for points all lie at 0.
+    fn make(
+        &self,
+        alloc: Global,
+        record: &mut Reader,
+        n: usize,
+        matrix: &mut [u16],
+    ) -> Result<(), AllocError> {
+        let n = n.min(4096);
+        let Recipe {
+            rule,
+            range,
+            diagonal,
+            seed,
+        } = *self;
+        matrix.fill(diagonal);
+        match rule {
+            Rule::Stored => record.fill(matrix),
+            Rule::Drawn => {
+                let mut state = seed;
+                put_legs(matrix, n, |_, _| range.draw(&mut state));
+            }
+            Rule::Points => {
+                let points = draw_points(alloc, n.min(STOPS), range, seed)?;
+                let point = |stop: usize| points.get(stop).copied().unwrap_or(Point::default());
+                put_legs(matrix, n, |a, b| point(a).way(point(b)));
+            }
+        }
+        Ok(())
     }
 }
 
@@ -110,32 +141,6 @@ fn draw_points(
     Ok(points)
 }
 
-// The matrix of a record. Stops past the memory for points all lie at 0.
-fn make_matrix(
-    alloc: Global,
-    record: &mut Reader,
-    recipe: Recipe,
-    n: usize,
-    matrix: &mut [u16],
-) -> Result<(), AllocError> {
-    let n = n.min(4096);
-    let range = recipe.range;
-    matrix.fill(recipe.diagonal);
-    match recipe.rule {
-        Rule::Stored => record.fill(matrix),
-        Rule::Drawn => {
-            let mut state = recipe.seed;
-            put_legs(matrix, n, |_, _| range.draw(&mut state));
-        }
-        Rule::Points => {
-            let points = draw_points(alloc, n.min(STOPS), range, recipe.seed)?;
-            let point = |stop: usize| points.get(stop).copied().unwrap_or(Point::default());
-            put_legs(matrix, n, |a, b| point(a).way(point(b)));
-        }
-    }
-    Ok(())
-}
-
 impl Session {
     // What the head of a record sets up: nobody waits, no entry is held, and the time is 0.
     fn read(record: &mut Reader) -> (Session, Recipe)
@@ -187,7 +192,7 @@ pub fn set_up(
     let (session, recipe) = Session::read(record);
     let plan = &mut memory.plan;
     let matrix = lent_mut(&mut plan.matrix, session.lengths.matrix);
-    make_matrix(alloc, record, recipe, session.n, matrix)?;
+    recipe.make(alloc, record, session.n, matrix)?;
     record.fill(lent_mut(&mut plan.near, session.lengths.near));
     record.fill(lent_mut(&mut plan.alpha, session.lengths.alpha));
     memory.work.clear();

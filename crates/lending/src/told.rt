@@ -15,7 +15,7 @@ pub enum Call {
     Undo,
 }
 
-// What a call gave: its number, the state it left, and its results.
+// What a call gave: its number, the state it left, and its results. It is a number, as a record may tell one that no refusal has.
 #[derive(Clone, Copy, PartialEq, Eq, Default)]
 pub struct Outcome {
     pub number: u32,
