@@ -15,7 +15,7 @@ pub enum Call {
     Undo,
 }
 
-// What a call gave: its number, the state it left, and its results. It is a number, as a record may tell one that no refusal has.
+// What a call gave: its refusal's number, or 0, the state it left, and its results. A record may tell a number that no refusal has.
 #[derive(Clone, Copy, PartialEq, Eq, Default)]
 pub struct Outcome {
     pub number: u32,
