@@ -1,212 +1,189 @@
 // Damage to what is lent, and its repair: a word is set, a slice is cut or grown with 0, or a number that goes in by value is put.
-use crate::memory::{clear, clear8, clear16, put, put8, put16};
-use crate::session::Session;
-use crate::words::{half, long, octet, word};
-use legs::wide;
+ghost use Rattle.std.specs.Prelude.{◌≡◌, ◌<◌, IfSome, IsNone};
+ghost use Rattle.lending.specs.Names.{slice_number, number_name};
 
-// What is done.
-const SET: u32 = 1;
+use crate::memory::Memory;
+use crate::reader::Reader;
+use crate::session::{Lengths, Session};
 
-const SIZE: u32 = 2;
-// To which slice.
-const MATRIX: u32 = 0;
+// A slice that is lent.
+#[derive(Clone, Copy, PartialEq, Eq)]
+pub enum Slice {
+    Matrix,
+    Near,
+    Alpha,
+    Round,
+    Places,
+    Queue,
+    Flags,
+    Scratch,
+    Journal,
+}
 
-const NEAR: u32 = 1;
+// A number that goes in by value.
+#[derive(Clone, Copy, PartialEq, Eq)]
+pub enum Number {
+    N,
+    K,
+    Ka,
+    Head,
+    Count,
+    Held,
+    Time,
+    Draw,
+}
 
-const ALPHA: u32 = 2;
+// What is done to a slice: a word is set to the low bits of a value, or the slice gets another length.
+#[derive(Clone, Copy, PartialEq, Eq)]
+pub enum Change {
+    Set { index: usize, value: u64 },
+    Resize { length: usize },
+}
 
-const ROUND: u32 = 3;
+// What a record does.
+#[derive(Clone, Copy, PartialEq, Eq)]
+pub enum Damage {
+    Strike(Slice, Change),
+    Put(Number, u64),
+}
 
-const PLACES: u32 = 4;
-
-const QUEUE: u32 = 5;
-
-const FLAGS: u32 = 6;
-
-const SCRATCH: u32 = 7;
-
-const JOURNAL: u32 = 8;
-
-// Strikes a slice, if it is the one that is meant; `length` words of it were lent.
-fn strike(bytes: &[u8], name: u32, words: &mut [u32], length: usize) {
-    let op = word(bytes, 0);
-    let index = wide(word(bytes, 8));
-    if word(bytes, 4) == name {
-        if op == SET {
-            put(words, index, word(bytes, 12));
-        } else if op == SIZE {
-            clear(words, length, index);
+impl Slice {
+    // The slice of a number, if there is one.
+    pub fn from_number(number: u32) -> Option<Slice>
+        ensures known { IfSome result (λ s. slice_number s ≡ number) }
+        ensures unknown { IsNone result → 8 < number }
+    {
+        match number {
+            0 => Some(Slice::Matrix),
+            1 => Some(Slice::Near),
+            2 => Some(Slice::Alpha),
+            3 => Some(Slice::Round),
+            4 => Some(Slice::Places),
+            5 => Some(Slice::Queue),
+            6 => Some(Slice::Flags),
+            7 => Some(Slice::Scratch),
+            8 => Some(Slice::Journal),
+            _ => None,
         }
     }
 }
 
-// The same for the matrix.
-fn strike16(bytes: &[u8], name: u32, words: &mut [u16], length: usize) {
-    let op = word(bytes, 0);
-    let index = wide(word(bytes, 8));
-    if word(bytes, 4) == name {
-        if op == SET {
-            put16(words, index, half(bytes, 12));
-        } else if op == SIZE {
-            clear16(words, length, index);
+impl Number {
+    // What a number names, if it names something.
+    pub fn from_number(number: u32) -> Option<Number>
+        ensures known { IfSome result (λ s. number_name s ≡ number) }
+        ensures unknown { IsNone result → 7 < number }
+    {
+        match number {
+            0 => Some(Number::N),
+            1 => Some(Number::K),
+            2 => Some(Number::Ka),
+            3 => Some(Number::Head),
+            4 => Some(Number::Count),
+            5 => Some(Number::Held),
+            6 => Some(Number::Time),
+            7 => Some(Number::Draw),
+            _ => None,
         }
     }
 }
 
-// The same for the flags.
-fn strike8(bytes: &[u8], name: u32, words: &mut [u8], length: usize) {
-    let op = word(bytes, 0);
-    let index = wide(word(bytes, 8));
-    if word(bytes, 4) == name {
-        if op == SET {
-            put8(words, index, octet(bytes, 12));
-        } else if op == SIZE {
-            clear8(words, length, index);
+impl Damage {
+    // What a record says: a name that is not known names nothing, and what is done is a number that is put unless it is known.
+    pub fn read(record: &mut Reader) -> Option<Damage> {
+        let action = record.word();
+        let name = record.word();
+        let index = record.size();
+        let value = record.long();
+        match action {
+            1 => Some(Damage::Strike(Slice::from_number(name)?, Change::Set { index, value })),
+            2 => Some(Damage::Strike(Slice::from_number(name)?, Change::Resize { length: index })),
+            _ => Some(Damage::Put(Number::from_number(name)?, value)),
+        }
+    }
+
+    // Does it to what is lent.
+    pub fn apply(self, session: &mut Session, memory: &mut Memory) {
+        match self {
+            Damage::Strike(slice, change) => memory.strike(&mut session.lengths, slice, change),
+            Damage::Put(number, value) => session.put(number, value),
         }
     }
 }
 
-// A slice's length, once it is cut or grown.
-fn length_after(bytes: &[u8], name: u32, length: usize) -> usize {
-    if word(bytes, 0) == SIZE {
-        if word(bytes, 4) == name {
-            return wide(word(bytes, 8));
+// A word of a slice.
+trait Word: Drop {
+    // The low bits of a value.
+    fn low(value: u64) -> Self;
+}
+
+impl Word for u8 {
+    fn low(value: u64) -> u8 {
+        (value & 0xff) as u8
+    }
+}
+
+impl Word for u16 {
+    fn low(value: u64) -> u16 {
+        (value & 0xffff) as u16
+    }
+}
+
+impl Word for u32 {
+    fn low(value: u64) -> u32 {
+        (value & 0xffff_ffff) as u32
+    }
+}
+
+// Changes a slice, of which so much is lent. What it grows by is 0, as far as there is memory.
+fn strike<T: Word>(words: &mut [T], lent: &mut usize, change: Change) {
+    match change {
+        Change::Set { index, value } => {
+            if let Some(word) = words.get_mut(index) {
+                *word = T::low(value);
+            }
+        }
+        Change::Resize { length } => {
+            for word in words.iter_mut().take(length).skip(*lent) {
+                *word = T::low(0);
+            }
+            *lent = length;
         }
     }
-    length
 }
 
-// All lengths, once one is cut or grown.
-fn sized(bytes: &[u8], session: Session) -> Session {
-    let mut next = session;
-    next.cells = length_after(bytes, MATRIX, session.cells);
-    next.nears = length_after(bytes, NEAR, session.nears);
-    next.alphas = length_after(bytes, ALPHA, session.alphas);
-    next.stops = length_after(bytes, ROUND, session.stops);
-    next.places = length_after(bytes, PLACES, session.places);
-    next.queue = length_after(bytes, QUEUE, session.queue);
-    next.flags = length_after(bytes, FLAGS, session.flags);
-    next.scratch = length_after(bytes, SCRATCH, session.scratch);
-    next.words = length_after(bytes, JOURNAL, session.words);
-    next
+impl Memory {
+    // Changes a slice.
+    fn strike(&mut self, lengths: &mut Lengths, slice: Slice, change: Change) {
+        let plan = &mut self.plan;
+        let work = &mut self.work;
+        match slice {
+            Slice::Matrix => strike(&mut plan.matrix, &mut lengths.matrix, change),
+            Slice::Near => strike(&mut plan.near, &mut lengths.near, change),
+            Slice::Alpha => strike(&mut plan.alpha, &mut lengths.alpha, change),
+            Slice::Round => strike(&mut work.round, &mut lengths.round, change),
+            Slice::Places => strike(&mut work.places, &mut lengths.places, change),
+            Slice::Queue => strike(&mut work.queue, &mut lengths.queue, change),
+            Slice::Flags => strike(&mut work.flags, &mut lengths.flags, change),
+            Slice::Scratch => strike(&mut work.scratch, &mut lengths.scratch, change),
+            Slice::Journal => strike(&mut work.journal, &mut lengths.journal, change),
+        }
+    }
 }
 
-// A number by value: n, k, ka, head, count, held, time, draw state.
-fn put_number(bytes: &[u8], session: Session) -> Session {
-    let name = word(bytes, 4);
-    let value = word(bytes, 12);
-    let mut next = session;
-    if name == 0 {
-        next.n = wide(value);
+impl Session {
+    // Puts a number.
+    fn put(&mut self, number: Number, value: u64) {
+        let word = u32::low(value);
+        match number {
+            Number::N => self.n = word as usize,
+            Number::K => self.k = word as usize,
+            Number::Ka => self.ka = word as usize,
+            Number::Head => self.state.head = word as usize,
+            Number::Count => self.state.count = word as usize,
+            Number::Held => self.state.held = word as usize,
+            Number::Time => self.state.time = word,
+            Number::Draw => self.state.draw = value,
+        }
     }
-    if name == 1 {
-        next.k = wide(value);
-    }
-    if name == 2 {
-        next.ka = wide(value);
-    }
-    if name == 3 {
-        next.head = wide(value);
-    }
-    if name == 4 {
-        next.count = wide(value);
-    }
-    if name == 5 {
-        next.held = wide(value);
-    }
-    if name == 6 {
-        next.time = value;
-    }
-    if name == 7 {
-        next.draw = long(bytes, 12);
-    }
-    next
-}
-
-// What goes in by value, after the damage.
-fn after(bytes: &[u8], session: Session) -> Session {
-    let op = word(bytes, 0);
-    if op == SET {
-        return session;
-    }
-    if op == SIZE {
-        return sized(bytes, session);
-    }
-    put_number(bytes, session)
-}
-
-// Strikes matrix or lists.
-fn strike_plan(
-    session: Session,
-    bytes: &[u8],
-    matrix: &mut [u16],
-    near: &mut [u32],
-    alpha: &mut [u32],
-) {
-    strike16(bytes, MATRIX, matrix, session.cells);
-    strike(bytes, NEAR, near, session.nears);
-    strike(bytes, ALPHA, alpha, session.alphas);
-}
-
-// Strikes round, places or journal.
-fn strike_track(
-    session: Session,
-    bytes: &[u8],
-    round: &mut [u32],
-    places: &mut [u32],
-    journal: &mut [u32],
-) {
-    strike(bytes, ROUND, round, session.stops);
-    strike(bytes, PLACES, places, session.places);
-    strike(bytes, JOURNAL, journal, session.words);
-}
-
-// Strikes queue, flags or scratch.
-fn strike_queue(
-    session: Session,
-    bytes: &[u8],
-    queue: &mut [u32],
-    flags: &mut [u8],
-    scratch: &mut [u32],
-) {
-    strike(bytes, QUEUE, queue, session.queue);
-    strike8(bytes, FLAGS, flags, session.flags);
-    strike(bytes, SCRATCH, scratch, session.scratch);
-}
-
-// Strikes what a call writes.
-fn strike_state(
-    session: Session,
-    bytes: &[u8],
-    round: &mut [u32],
-    places: &mut [u32],
-    queue: &mut [u32],
-    flags: &mut [u8],
-    scratch: &mut [u32],
-    journal: &mut [u32],
-) {
-    strike_track(session, bytes, round, places, journal);
-    strike_queue(session, bytes, queue, flags, scratch);
-}
-
-// Does what a record says.
-pub fn damage(
-    session: Session,
-    bytes: &[u8],
-    matrix: &mut [u16],
-    near: &mut [u32],
-    alpha: &mut [u32],
-    round: &mut [u32],
-    places: &mut [u32],
-    queue: &mut [u32],
-    flags: &mut [u8],
-    scratch: &mut [u32],
-    journal: &mut [u32],
-) -> Session {
-    let next = after(bytes, session);
-    strike_plan(session, bytes, matrix, near, alpha);
-    strike_state(
-        session, bytes, round, places, queue, flags, scratch, journal,
-    );
-    next
 }

@@ -7,6 +7,7 @@ pub mod compare;
 pub mod damage;
 pub mod memory;
 pub mod plan;
+pub mod range;
+pub mod reader;
 pub mod session;
 pub mod told;
-pub mod words;

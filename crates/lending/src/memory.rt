@@ -1,162 +1,97 @@
-// Lent words: written one by one, cleared, kept and compared. An index past the end reads 0 and writes nothing.
-ghost use Rattle.std.specs.Prelude.{◌≤◌, ◌+◌, length};
+// The memory that calls are lent, from the start of each slice as much as the session says. It is on the heap: no crate but the program
+// `replay` and its library of calls stands on it. Each slice keeps its whole length, since what lies beyond what is lent stays for later.
+ghost use Rattle.std.specs.Prelude.{◌≡◌, take, replicate, vec_len, IfOk};
 
-use crate::words::half;
-use legs::wide16;
+use std::alloc::{AllocError, Global};
 
-// A length, within what there is.
-pub fn within(length: usize, most: usize) -> usize
-    ensures { result ≤ most }
+// No record gets more than this of each slice.
+const CELLS: usize = 1_000_000;
+
+const NEAR: usize = 20_000;
+
+const ALPHA: usize = 5_000;
+// A start round's case is lent more than a session's calls.
+const ROUND: usize = 4_200;
+
+pub const STOPS: usize = 1_100;
+
+const JOURNAL: usize = 6_000;
+
+// What a call reads.
+#[derive(Drop)]
+pub struct Plan {
+    pub matrix: Vec<u16>,
+    pub near: Vec<u32>,
+    pub alpha: Vec<u32>,
+}
+
+// What a call writes.
+#[derive(Clone, PartialEq, Eq, Drop)]
+pub struct Work {
+    pub round: Vec<u32>,
+    pub places: Vec<u32>,
+    pub queue: Vec<u32>,
+    pub flags: Vec<u8>,
+    pub scratch: Vec<u32>,
+    pub journal: Vec<u32>,
+}
+
+#[derive(Drop)]
+pub struct Memory {
+    pub plan: Plan,
+    pub work: Work,
+}
+
+impl Memory {
+    // Memory in which every word is 0.
+    pub fn new(alloc: Global) -> Result<Memory, AllocError> {
+        let plan = Plan {
+            matrix: vec![in alloc; 0; CELLS]?,
+            near: vec![in alloc; 0; NEAR]?,
+            alpha: vec![in alloc; 0; ALPHA]?,
+        };
+        let work = Work {
+            round: vec![in alloc; 0; ROUND]?,
+            places: vec![in alloc; 0; STOPS]?,
+            queue: vec![in alloc; 0; STOPS]?,
+            flags: vec![in alloc; 0; STOPS]?,
+            scratch: vec![in alloc; 0; STOPS]?,
+            journal: vec![in alloc; 0; JOURNAL]?,
+        };
+        Ok(Memory { plan, work })
+    }
+}
+
+impl Work {
+    // Every word is 0.
+    pub fn clear(&mut self)
+        ensures round { self.new.round.items ≡ replicate (vec_len self.old.round) 0 }
+        ensures places { self.new.places.items ≡ replicate (vec_len self.old.places) 0 }
+        ensures queue { self.new.queue.items ≡ replicate (vec_len self.old.queue) 0 }
+        ensures flags { self.new.flags.items ≡ replicate (vec_len self.old.flags) 0 }
+        ensures scratch { self.new.scratch.items ≡ replicate (vec_len self.old.scratch) 0 }
+        ensures journal { self.new.journal.items ≡ replicate (vec_len self.old.journal) 0 }
+    {
+        self.round.fill(0);
+        self.places.fill(0);
+        self.queue.fill(0);
+        self.flags.fill(0);
+        self.scratch.fill(0);
+        self.journal.fill(0);
+    }
+}
+
+// As much of a slice as is lent to be read.
+pub fn lent<T>(words: &[T], count: usize) -> &[T]
+    ensures { result.now ≡ take count words.now }
 {
-    if length < most { length } else { most }
+    &words[..count.min(words.len())]
 }
 
-pub fn word_at(words: &[u32], i: usize) -> u32 {
-    if i < words.len() {
-        return words[i];
-    }
-    0
-}
-
-pub fn flag_at(flags: &[u8], i: usize) -> u8 {
-    if i < flags.len() {
-        return flags[i];
-    }
-    0
-}
-
-pub fn put(words: &mut [u32], i: usize, value: u32) {
-    if i < words.len() {
-        words[i] = value;
-    }
-}
-
-pub fn put8(words: &mut [u8], i: usize, value: u8) {
-    if i < words.len() {
-        words[i] = value;
-    }
-}
-
-pub fn put16(words: &mut [u16], i: usize, value: u16) {
-    if i < words.len() {
-        words[i] = value;
-    }
-}
-
-// Fills words with the 16 bits each that stand in the record.
-pub fn halves(bytes: &[u8], at: usize, words: &mut [u32])
-    requires at_bound { at ≤ 3000000 }
-    requires words_len_bound { length words.old ≤ 100000 }
+// As much of a slice as is lent to be written.
+pub fn lent_mut<T>(words: &mut [T], count: usize) -> &mut [T]
+    ensures { result.now ≡ take count words.old }
 {
-    let mut i: usize = 0;
-    while i < words.len() {
-        words[i] = wide16(half(bytes, at + 2 * i));
-        i += 1;
-    }
-}
-
-// Clears words from an index up to another.
-pub fn clear(words: &mut [u32], from: usize, to: usize) {
-    let mut i = from;
-    while i < to {
-        if i >= words.len() {
-            return;
-        }
-        words[i] = 0;
-        i += 1;
-    }
-}
-
-// Clears cells from an index up to another.
-pub fn clear16(words: &mut [u16], from: usize, to: usize) {
-    let mut i = from;
-    while i < to {
-        if i >= words.len() {
-            return;
-        }
-        words[i] = 0;
-        i += 1;
-    }
-}
-
-// Clears flags from an index up to another.
-pub fn clear8(words: &mut [u8], from: usize, to: usize) {
-    let mut i = from;
-    while i < to {
-        if i >= words.len() {
-            return;
-        }
-        words[i] = 0;
-        i += 1;
-    }
-}
-
-// Keeps a copy of the words from an index on.
-pub fn keep(kept: &mut [u32], at: usize, words: &[u32]) {
-    let mut i: usize = 0;
-    let mut j = at;
-    while i < words.len() {
-        if j >= kept.len() {
-            return;
-        }
-        kept[j] = words[i];
-        i += 1;
-        j += 1;
-    }
-}
-
-// A flag as a word.
-fn wide8(x: u8) -> u32 {
-    x as u32
-}
-
-// Keeps a copy of the flags from an index on.
-pub fn keep8(kept: &mut [u32], at: usize, flags: &[u8]) {
-    let mut i: usize = 0;
-    let mut j = at;
-    while i < flags.len() {
-        if j >= kept.len() {
-            return;
-        }
-        kept[j] = wide8(flags[i]);
-        i += 1;
-        j += 1;
-    }
-}
-
-// Whether the first so many words are those that were kept from an index on.
-pub fn as_kept(kept: &[u32], at: usize, words: &[u32], count: usize) -> bool {
-    let mut i: usize = 0;
-    let mut j = at;
-    while i < count {
-        if i >= words.len() {
-            return false;
-        }
-        if j >= kept.len() {
-            return false;
-        }
-        if kept[j] != words[i] {
-            return false;
-        }
-        i += 1;
-        j += 1;
-    }
-    true
-}
-
-// Whether the flags are those that were kept from an index on.
-pub fn as_kept8(kept: &[u32], at: usize, flags: &[u8]) -> bool {
-    let mut i: usize = 0;
-    let mut j = at;
-    while i < flags.len() {
-        if j >= kept.len() {
-            return false;
-        }
-        if kept[j] != wide8(flags[i]) {
-            return false;
-        }
-        i += 1;
-        j += 1;
-    }
-    true
+    let end = count.min(words.len());
+    &mut words[..end]
 }

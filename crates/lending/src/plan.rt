@@ -1,199 +1,200 @@
-// The matrix that a record sets up, by its rule.
-ghost use Rattle.std.specs.Prelude.{◌≤◌, length};
+// What a record sets up: the matrix, by its rule, and the lists.
+ghost use Rattle.std.specs.Prelude.{◌≡◌, ◌≤◌, IfOk};
+ghost use Rattle.lending.specs.Results.{IsFresh};
 
-use crate::memory::{put16, within, word_at};
-use crate::words::{half, long, word};
-use draws::{pick, step};
-use legs::wide;
+use crate::memory::{Memory, STOPS, lent_mut};
+use crate::range::Range;
+use crate::reader::Reader;
+use crate::session::{Lengths, Session, State};
+use std::alloc::{AllocError, Global};
 
-// The bytes before a record's cells and lists.
-pub const HEAD: usize = 60;
+// No points are farther apart along an axis, so that a leg fits 16 bits.
+const FARTHEST: u16 = 32_767;
 
-// The rules: cells that stand in the record, cells drawn, and points drawn.
-const STORED: u32 = 0;
-
-const DRAWN: u32 = 1;
-// Where a rule's draws end: no point lies farther, so that two are at most 65534 apart.
-const FARTHEST: u32 = 32767;
-
-// The least and the greatest of a rule's draws.
+// How a matrix is made: its cells stand in the record, its legs are drawn, or its stops are points that are drawn.
 #[derive(Clone, Copy)]
-struct Range {
-    low: u32,
-    high: u32,
+enum Rule {
+    Stored,
+    Drawn,
+    Points,
 }
 
-// The range of a record, within what 16 bits hold.
-fn range_in(bytes: &[u8]) -> Range
-    ensures { (result.low ≤ result.high) × (result.high ≤ 65535) }
-{
-    let low = word(bytes, 32);
-    let high = word(bytes, 36);
-    if low > high {
-        return Range { low: 0, high: 0 };
+impl Rule {
+    // The rule of a number. One that is not known draws points.
+    fn from_number(number: u32) -> Rule {
+        match number {
+            0 => Rule::Stored,
+            1 => Rule::Drawn,
+            _ => Rule::Points,
+        }
     }
-    if high > 65535 {
-        return Range { low: 0, high: 0 };
+}
+
+// How the matrix of a record is made.
+#[derive(Clone, Copy)]
+struct Recipe {
+    rule: Rule,
+    range: Range,
+    diagonal: u16,
+    seed: u64,
+}
+
+impl Recipe {
+    fn read(record: &mut Reader) -> Recipe {
+        let rule = Rule::from_number(record.word());
+        let low = record.word();
+        let high = record.word();
+        let diagonal = record.half();
+        record.skip(2);
+        let seed = record.long();
+        Recipe {
+            rule,
+            range: Range::new(low, high).unwrap_or(Range::nil()),
+            diagonal,
+            seed,
+        }
     }
-    Range { low, high }
-}
 
-// A draw that fits a cell.
-fn time_of(range: Range, state: u64) -> u16
-    requires { (range.low ≤ range.high) × (range.high ≤ 65535) }
-{
-    pick(range.low, range.high, state) as u16
-}
-
-// Writes a leg both ways.
-fn put_leg(matrix: &mut [u16], n: usize, a: usize, b: usize, time: u16)
-    requires n_bound { n ≤ 4096 }
-    requires a_bound { a ≤ 4096 }
-    requires b_bound { b ≤ 4096 }
-{
-    put16(matrix, a * n + b, time);
-    put16(matrix, b * n + a, time);
-}
-
-// Draws the legs from stop a to those after it, and moves the state on.
-fn draw_row(matrix: &mut [u16], n: usize, a: usize, range: Range, seed: u64) -> u64
-    requires n_bound { n ≤ 4096 }
-    requires a_bound { a ≤ 4096 }
-    requires low_le_high { (range.low ≤ range.high) × (range.high ≤ 65535) }
-{
-    let mut state = seed;
-    let mut b = a + 1;
-    while b < n {
-        state = step(state);
-        put_leg(matrix, n, a, b, time_of(range, state));
-        b += 1;
+    // Makes the matrix. Its cells may stand in the record; stops past the memory for points all lie at 0.
+    fn make(
+        &self,
+        alloc: Global,
+        record: &mut Reader,
+        n: usize,
+        matrix: &mut [u16],
+    ) -> Result<(), AllocError> {
+        let n = n.min(4096);
+        let Recipe {
+            rule,
+            range,
+            diagonal,
+            seed,
+        } = *self;
+        matrix.fill(diagonal);
+        match rule {
+            Rule::Stored => record.fill(matrix),
+            Rule::Drawn => {
+                let mut state = seed;
+                put_legs(matrix, n, |_, _| range.draw(&mut state));
+            }
+            Rule::Points => {
+                let points = draw_points(alloc, n.min(STOPS), range, seed)?;
+                let point = |stop: usize| points.get(stop).copied().unwrap_or(Point::default());
+                put_legs(matrix, n, |a, b| point(a).way(point(b)));
+            }
+        }
+        Ok(())
     }
-    state
 }
 
-// Draws all legs, row by row.
-fn draw_legs(matrix: &mut [u16], n: usize, range: Range, seed: u64)
+// Where a stop is.
+#[derive(Clone, Copy, Default)]
+struct Point {
+    x: u16,
+    y: u16,
+}
+
+impl Point {
+    // The way to another along both axes, as far as each goes.
+    fn way(self, other: Point) -> u16 {
+        let across = self.x.abs_diff(other.x).min(FARTHEST);
+        let up = self.y.abs_diff(other.y).min(FARTHEST);
+        across + up
+    }
+}
+
+// Writes a cell, if there is one.
+fn put(matrix: &mut [u16], i: usize, time: u16) {
+    if let Some(cell) = matrix.get_mut(i) {
+        *cell = time;
+    }
+}
+
+// Writes the leg between each two of n stops both ways, row by row.
+fn put_legs<F: FnMut(usize, usize) -> u16>(matrix: &mut [u16], n: usize, mut leg: F)
     requires n_bound { n ≤ 4096 }
-    requires low_le_high { (range.low ≤ range.high) × (range.high ≤ 65535) }
+    requires callable { F.IsAlwaysCallable leg }
 {
-    let mut state = seed;
-    let mut a: usize = 0;
-    while a < n {
-        state = draw_row(matrix, n, a, range, state);
-        a += 1;
+    for a in 0..n {
+        for b in a + 1..n {
+            let time = leg(a, b);
+            put(matrix, a * n + b, time);
+            put(matrix, b * n + a, time);
+        }
     }
 }
 
 // Draws points, x and y in turn.
-fn draw_points(xs: &mut [u32], ys: &mut [u32], range: Range, seed: u64)
-    requires low_le_high { (range.low ≤ range.high) × (range.high ≤ 65535) }
-    requires xs_in_bounds { length xs.old ≤ length ys.old }
-{
+fn draw_points(
+    alloc: Global,
+    count: usize,
+    range: Range,
+    seed: u64,
+) -> Result<Vec<Point>, AllocError> {
     let mut state = seed;
-    let mut i: usize = 0;
-    while i < xs.len() {
-        state = step(state);
-        xs[i] = pick(range.low, range.high, state);
-        state = step(state);
-        ys[i] = pick(range.low, range.high, state);
-        i += 1;
+    let mut points = vec![in alloc]?;
+    for _ in 0..count {
+        let x = range.draw(&mut state);
+        let y = range.draw(&mut state);
+        points.push(Point { x, y })?;
+    }
+    Ok(points)
+}
+
+impl Session {
+    // What the head of a record sets up: nobody waits, no entry is held, and the time is 0.
+    fn read(record: &mut Reader) -> (Session, Recipe)
+        ensures { IsFresh result.0 }
+    {
+        let n = record.size();
+        let k = record.size();
+        let ka = record.size();
+        let matrix = record.size();
+        let near = record.size();
+        let alpha = record.size();
+        let journal = record.size();
+        let recipe = Recipe::read(record);
+        let draw = record.long();
+        let lengths = Lengths {
+            matrix,
+            near,
+            alpha,
+            round: n,
+            places: n,
+            queue: n,
+            flags: n,
+            scratch: n,
+            journal,
+        };
+        let state = State {
+            draw,
+            ..State::default()
+        };
+        let session = Session {
+            n,
+            k,
+            ka,
+            lengths,
+            state,
+        };
+        (session, recipe)
     }
 }
 
-// How far two numbers are apart, as far as that goes.
-fn apart(a: u32, b: u32) -> u32
-    ensures { result ≤ 32767 }
+// Sets up what is lent, as a record says: matrix and lists, and in all else every word is 0.
+pub fn set_up(
+    alloc: Global,
+    record: &mut Reader,
+    memory: &mut Memory,
+) -> Result<Session, AllocError>
+    ensures { IfOk result IsFresh }
 {
-    let gap = if a < b { b - a } else { a - b };
-    if gap > FARTHEST { FARTHEST } else { gap }
-}
-
-// The way between two points along both axes.
-fn way(xs: &[u32], ys: &[u32], a: usize, b: usize) -> u16 {
-    let across = apart(word_at(xs, a), word_at(xs, b));
-    let up = apart(word_at(ys, a), word_at(ys, b));
-    (across + up) as u16
-}
-
-// The ways from stop a to those after it.
-fn way_row(matrix: &mut [u16], n: usize, a: usize, xs: &[u32], ys: &[u32])
-    requires n_bound { n ≤ 4096 }
-    requires a_bound { a ≤ 4096 }
-{
-    let mut b = a + 1;
-    while b < n {
-        put_leg(matrix, n, a, b, way(xs, ys, a, b));
-        b += 1;
-    }
-}
-
-// The ways between all points, row by row.
-fn way_legs(matrix: &mut [u16], n: usize, xs: &[u32], ys: &[u32])
-    requires { n ≤ 4096 }
-{
-    let mut a: usize = 0;
-    while a < n {
-        way_row(matrix, n, a, xs, ys);
-        a += 1;
-    }
-}
-
-// Draws points and writes the ways between them.
-fn lay_points(matrix: &mut [u16], n: usize, xs: &mut [u32], ys: &mut [u32], range: Range, seed: u64)
-    requires n_bound { n ≤ 4096 }
-    requires low_le_high { (range.low ≤ range.high) × (range.high ≤ 65535) }
-    requires xs_in_bounds { length xs.old ≤ length ys.old }
-{
-    draw_points(xs, ys, range, seed);
-    way_legs(matrix, n, &xs[..], &ys[..]);
-}
-
-// Every cell the same, the diagonal's too.
-fn even(matrix: &mut [u16], time: u16) {
-    let mut i: usize = 0;
-    while i < matrix.len() {
-        matrix[i] = time;
-        i += 1;
-    }
-}
-
-// Cells that stand in the record.
-fn copy_cells(bytes: &[u8], matrix: &mut [u16])
-    requires { length matrix.old ≤ 1000000 }
-{
-    let mut i: usize = 0;
-    while i < matrix.len() {
-        matrix[i] = half(bytes, HEAD + 2 * i);
-        i += 1;
-    }
-}
-
-// The matrix of a record. Points are drawn into lent words, which are spare then.
-pub fn make_matrix(bytes: &[u8], matrix: &mut [u16], xs: &mut [u32], ys: &mut [u32])
-    requires matrix_len_bound { length matrix.old ≤ 1000000 }
-    requires xs_in_bounds { length xs.old ≤ length ys.old }
-{
-    let n = within(wide(word(bytes, 0)), 4096);
-    let rule = word(bytes, 28);
-    let range = range_in(bytes);
-    let seed = long(bytes, 44);
-    even(matrix, half(bytes, 40));
-    if rule == STORED {
-        copy_cells(bytes, matrix);
-    } else if rule == DRAWN {
-        draw_legs(matrix, n, range, seed);
-    } else {
-        lay_points(matrix, n, xs, ys, range, seed);
-    }
-}
-
-// Where the lists begin in the record.
-pub fn lists_at(bytes: &[u8], cells: usize) -> usize
-    requires { cells ≤ 1000000 }
-    ensures { result ≤ 2000060 }
-{
-    if word(bytes, 28) == STORED {
-        return HEAD + 2 * cells;
-    }
-    HEAD
+    let (session, recipe) = Session::read(record);
+    let plan = &mut memory.plan;
+    let matrix = lent_mut(&mut plan.matrix, session.lengths.matrix);
+    recipe.make(alloc, record, session.n, matrix)?;
+    record.fill(lent_mut(&mut plan.near, session.lengths.near));
+    record.fill(lent_mut(&mut plan.alpha, session.lengths.alpha));
+    memory.work.clear();
+    Ok(session)
 }

@@ -1,147 +1,88 @@
-// Cases of the start rounds and of the exact solver, run and compared with what the oracle answered.
-ghost use Rattle.std.specs.Prelude.{◌≤◌, length};
+// Cases of the start rounds and of the exact solver, run and compared with what the oracle answered. One that is too large for the lent
+// memory does not agree.
+use crate::case::Case;
+use lending::reader::Reader;
 
-use crate::case::{Case, make_matrix, round_at};
-use crate::lent::{fill, written};
-use lending::compare::same;
+// What lent words hold before a call: no stop and no time is it.
+const LENT: u32 = 0xaaaa_aaaa;
 
-// Runs one of the two start rounds.
-fn run_start(matrix: &[u16], n: usize, blocked: bool, round: &mut [u32]) -> u32 {
-    if blocked {
-        return start::nearest_neighbor_tour(matrix, n, round);
-    }
-    start::greedy_nearest_neighbor(matrix, n, round)
+// Whether exactly the first so many words were written since they were filled.
+fn is_written(words: &[u32], first: usize) -> bool {
+    let Some((written, rest)) = words.split_at_checked(first) else {
+        return false;
+    };
+    written.iter().all(|word| *word != LENT) && rest.iter().all(|word| *word == LENT)
 }
 
-// Whether a start round's number and round are as answered. The round was filled before.
-fn start_agrees(bytes: &[u8], at: usize, number: u32, case: Case, round: &[u32]) -> bool
-    requires at_bound { at ≤ 3000000 }
-    requires round_len_bound { length round.now ≤ 5000 }
-{
-    if number != case.number {
-        return false;
+// Whether the round is as answered, or as it was filled where the answer is a refusal.
+fn is_round(record: &mut Reader, case: &Case, round: &[u32]) -> bool {
+    if case.number == 0 {
+        record.gives(round)
+    } else {
+        is_written(round, 0)
     }
-    if number != 0 {
-        return written(round, 0);
-    }
-    same(bytes, at, round)
 }
 
-// Runs both start rounds: whether each is as answered. The blocked one's answer stands first.
-fn starts_agree(bytes: &[u8], at: usize, case: Case, matrix: &[u16], round: &mut [u32]) -> bool
-    requires at_bound { at ≤ 2000044 }
-    requires round_len_bound { length round.old ≤ 5000 }
-{
-    fill(round);
-    let number = run_start(matrix, case.n, true, round);
-    if !start_agrees(bytes, at, number, case, &round[..]) {
-        return false;
-    }
-    fill(round);
-    let number = run_start(matrix, case.n, false, round);
-    start_agrees(bytes, at + 2 * round.len(), number, case, &round[..])
-}
-
-// Makes the matrix of a case, and runs both start rounds on it.
-fn start_on(bytes: &[u8], case: Case, matrix: &mut [u16], round: &mut [u32]) -> bool
-    requires matrix_len_bound { length matrix.old ≤ 1000000 }
-    requires round_len_bound { length round.old ≤ 5000 }
-{
-    make_matrix(bytes, case, matrix);
-    let at = round_at(case.seed, matrix.len());
-    starts_agree(bytes, at, case, &matrix[..], round)
-}
-
-// Whether a case of the start rounds agrees. One that is too large for the lent memory doesn't.
-pub fn start_case(bytes: &[u8], case: Case, matrix: &mut [u16], round: &mut [u32]) -> bool
-    requires matrix_len_bound { length matrix.old ≤ 1000000 }
-    requires round_len_bound { length round.old ≤ 5000 }
-{
-    let cells = case.cells;
-    let stops = case.stops;
-    if cells > matrix.len() {
-        return false;
-    }
-    if stops > round.len() {
-        return false;
-    }
-    start_on(bytes, case, &mut matrix[..cells], &mut round[..stops])
-}
-
-// Whether the exact solver's number, time, table and round are as answered. Table and round were filled before.
-fn exact_agrees(
-    bytes: &[u8],
-    at: usize,
-    solved: exact::Solved,
-    case: Case,
-    table: &[u32],
-    round: &[u32],
-) -> bool
-    requires at_bound { at ≤ 3000000 }
-    requires round_len_bound { length round.now ≤ 5000 }
-{
-    if solved.number != case.number {
-        return false;
-    }
-    if solved.time != case.time {
-        return false;
-    }
-    if !written(table, case.used) {
-        return false;
-    }
-    if case.number != 0 {
-        return written(round, 0);
-    }
-    same(bytes, at, round)
-}
-
-// Makes the matrix of a case, and runs the exact solver on it.
-fn exact_on(
-    bytes: &[u8],
-    case: Case,
-    matrix: &mut [u16],
-    table: &mut [u32],
+// Whether a start round's number and round are as answered.
+fn start_agrees<F: FnOnce(&[u16], usize, &mut [u32]) -> u32>(
+    start: F,
+    record: &mut Reader,
+    case: &Case,
+    matrix: &[u16],
     round: &mut [u32],
 ) -> bool
-    requires matrix_len_bound { length matrix.old ≤ 1000000 }
-    requires round_len_bound { length round.old ≤ 5000 }
+    requires { F.IsAlwaysCallable start }
 {
-    make_matrix(bytes, case, matrix);
-    fill(table);
-    fill(round);
-    let solved = exact::solve_tsp_exact(&matrix[..], case.n, table, round);
-    let at = round_at(case.seed, matrix.len());
-    exact_agrees(bytes, at, solved, case, &table[..], &round[..])
+    round.fill(LENT);
+    let number = start(matrix, case.n, round);
+    number == case.number && is_round(record, case, round)
 }
 
-// Whether a case of the exact solver agrees. One that is too large for the lent memory doesn't.
-pub fn exact_case(
-    bytes: &[u8],
-    case: Case,
-    matrix: &mut [u16],
-    table: &mut [u32],
-    round: &mut [u32],
-) -> bool
-    requires matrix_len_bound { length matrix.old ≤ 1000000 }
-    requires round_len_bound { length round.old ≤ 5000 }
-{
-    let cells = case.cells;
-    let stops = case.stops;
-    let room = case.room;
-    if cells > matrix.len() {
+// Whether a case of the start rounds agrees. The blocked one's answer stands first.
+pub fn start_case(record: &[u8], matrix: &mut [u16], round: &mut [u32]) -> bool {
+    let mut record = Reader::new(record);
+    let case = Case::read(&mut record);
+    let Some(matrix) = matrix.get_mut(..case.matrix) else {
         return false;
-    }
-    if stops > round.len() {
+    };
+    let Some(round) = round.get_mut(..case.round) else {
         return false;
-    }
-    if room > table.len() {
-        return false;
-    }
-    exact_on(
-        bytes,
-        case,
-        &mut matrix[..cells],
-        &mut table[..room],
-        &mut round[..stops],
+    };
+    case.make_matrix(&mut record, matrix);
+    start_agrees(
+        start::nearest_neighbor_tour,
+        &mut record,
+        &case,
+        matrix,
+        round,
+    ) && start_agrees(
+        start::greedy_nearest_neighbor,
+        &mut record,
+        &case,
+        matrix,
+        round,
     )
+}
+
+// Whether a case of the exact solver agrees: its number, time, table and round.
+pub fn exact_case(record: &[u8], matrix: &mut [u16], table: &mut [u32], round: &mut [u32]) -> bool {
+    let mut record = Reader::new(record);
+    let case = Case::read(&mut record);
+    let Some(matrix) = matrix.get_mut(..case.matrix) else {
+        return false;
+    };
+    let Some(table) = table.get_mut(..case.table) else {
+        return false;
+    };
+    let Some(round) = round.get_mut(..case.round) else {
+        return false;
+    };
+    case.make_matrix(&mut record, matrix);
+    table.fill(LENT);
+    round.fill(LENT);
+    let solved = exact::solve_tsp_exact(matrix, case.n, table, round);
+    solved.number == case.number
+        && solved.time == case.time
+        && is_written(table, case.used)
+        && is_round(&mut record, &case, round)
 }

@@ -1,107 +1,125 @@
 // A tally for each kind of answer: the start rounds, the exact solver, each call that was accepted, and refusals of any call.
-use crate::tally::{Tally, counted, none, print};
+use lending::told::Call;
+use sessions::calls::Met;
+use std::{fmt, io};
 
-#[derive(Clone, Copy)]
-pub struct Tallies {
-    pub start: Tally,
-    pub exact: Tally,
-    pub load: Tally,
-    pub kick: Tally,
-    pub descend: Tally,
-    pub commit: Tally,
-    pub undo: Tally,
-    pub refusal: Tally,
+// So many of a kind that differ are told by their number in the list.
+const TOLD: u64 = 5;
+
+// The kinds of answers.
+#[derive(Clone, Copy, PartialEq, Eq)]
+pub enum Answer {
+    Start,
+    Exact,
+    Load,
+    Kick,
+    Descend,
+    Commit,
+    Undo,
+    Refusal,
 }
 
-pub fn nothing() -> Tallies {
-    Tallies {
-        start: none(),
-        exact: none(),
-        load: none(),
-        kick: none(),
-        descend: none(),
-        commit: none(),
-        undo: none(),
-        refusal: none(),
+impl Answer {
+    // All kinds, in their order.
+    const ALL: [Answer; 8] = [
+        Answer::Start,
+        Answer::Exact,
+        Answer::Load,
+        Answer::Kick,
+        Answer::Descend,
+        Answer::Commit,
+        Answer::Undo,
+        Answer::Refusal,
+    ];
+}
+
+impl From<Met> for Answer {
+    fn from(met: Met) -> Answer {
+        if met.refused {
+            return Answer::Refusal;
+        }
+        match met.call {
+            Call::Load => Answer::Load,
+            Call::Kick { .. } => Answer::Kick,
+            Call::Descend { .. } => Answer::Descend,
+            Call::Commit => Answer::Commit,
+            Call::Undo => Answer::Undo,
+        }
     }
 }
 
-// After a start round.
-pub fn start_met(tallies: Tallies, agreed: bool, record: u64) -> Tallies {
-    let mut next = tallies;
-    let tally = tallies.start;
-    next.start = counted(tally, b"start", agreed, record);
-    next
+impl fmt::Display for Answer {
+    fn fmt<W: fmt::Write>(&self, f: &mut fmt::Formatter<W>) -> fmt::Result {
+        f.write_str(match self {
+            Answer::Start => "start",
+            Answer::Exact => "exact",
+            Answer::Load => "load",
+            Answer::Kick => "kick",
+            Answer::Descend => "descend",
+            Answer::Commit => "commit",
+            Answer::Undo => "undo",
+            Answer::Refusal => "refusal",
+        })
+    }
 }
 
-// After an exact round.
-pub fn exact_met(tallies: Tallies, agreed: bool, record: u64) -> Tallies {
-    let mut next = tallies;
-    let tally = tallies.exact;
-    next.exact = counted(tally, b"exact", agreed, record);
-    next
+// How many cases of a kind were run, agreed and differed, as far as the numbers go.
+#[derive(Clone, Copy, Default)]
+struct Tally {
+    run: u64,
+    agreed: u64,
+    differed: u64,
 }
 
-// After a refusal.
-fn refusal_met(tallies: Tallies, agreed: bool, record: u64) -> Tallies {
-    let mut next = tallies;
-    let tally = tallies.refusal;
-    next.refusal = counted(tally, b"refusal", agreed, record);
-    next
+impl Tally {
+    fn count(&mut self, agreed: bool) {
+        self.run = self.run.saturating_add(1);
+        if agreed {
+            self.agreed = self.agreed.saturating_add(1);
+        } else {
+            self.differed = self.differed.saturating_add(1);
+        }
+    }
 }
 
-// After a call that was accepted.
-fn accepted_met(tallies: Tallies, kind: u32, agreed: bool, record: u64) -> Tallies {
-    let mut next = tallies;
-    if kind == lending::told::LOAD {
-        let tally = tallies.load;
-        next.load = counted(tally, b"load", agreed, record);
-        return next;
+impl fmt::Display for Tally {
+    fn fmt<W: fmt::Write>(&self, f: &mut fmt::Formatter<W>) -> fmt::Result {
+        let Tally {
+            run,
+            agreed,
+            differed,
+        } = *self;
+        write!(f, "{run} run, {agreed} agreed, {differed} differed")
     }
-    if kind == lending::told::KICK {
-        let tally = tallies.kick;
-        next.kick = counted(tally, b"kick", agreed, record);
-        return next;
-    }
-    if kind == lending::told::DESCEND {
-        let tally = tallies.descend;
-        next.descend = counted(tally, b"descend", agreed, record);
-        return next;
-    }
-    if kind == lending::told::COMMIT {
-        let tally = tallies.commit;
-        next.commit = counted(tally, b"commit", agreed, record);
-        return next;
-    }
-    let tally = tallies.undo;
-    next.undo = counted(tally, b"undo", agreed, record);
-    next
 }
 
-// After a call: its kind, and the number that was answered.
-pub fn call_met(tallies: Tallies, kind: u32, number: u32, agreed: bool, record: u64) -> Tallies {
-    if number != 0 {
-        return refusal_met(tallies, agreed, record);
-    }
-    accepted_met(tallies, kind, agreed, record)
-}
+// The tallies by the kinds of answers.
+#[derive(Clone, Copy, Default)]
+pub struct Tallies([Tally; 8]);
 
-// Says how many of each kind there were.
-pub fn tell(tallies: Tallies) {
-    let start = tallies.start;
-    let exact = tallies.exact;
-    let load = tallies.load;
-    let kick = tallies.kick;
-    let descend = tallies.descend;
-    let commit = tallies.commit;
-    let undo = tallies.undo;
-    let refusal = tallies.refusal;
-    print(start, b"start");
-    print(exact, b"exact");
-    print(load, b"load");
-    print(kick, b"kick");
-    print(descend, b"descend");
-    print(commit, b"commit");
-    print(undo, b"undo");
-    print(refusal, b"refusal");
+impl Tallies {
+    // After another case, the so manieth of the list.
+    pub fn count(
+        &mut self,
+        rt: &impl Print,
+        answer: Answer,
+        agreed: bool,
+        record: u64,
+    ) -> io::Result<()> {
+        let tally = &mut self.0[answer as usize];
+        if !agreed && tally.differed < TOLD {
+            println!(rt; "{answer}: record {record} differs")?;
+        }
+        tally.count(agreed);
+        Ok(())
+    }
+
+    // Says how many of each kind there were.
+    pub fn tell(&self, rt: &impl Print) -> io::Result<()> {
+        for answer in Answer::ALL {
+            let tally = self.0[answer as usize];
+            println!(rt; "{answer}: {tally}")?;
+        }
+        Ok(())
+    }
 }

@@ -1,9 +1,0 @@
-use native.Mathlib.Omega.{arith}
-use lib.ListN.{length-set}
-use Rattle.replay.proofs.case.draw_cells.Goals as goal
-
-pub loop-i-smaller : goal.loop-i-smaller
-loop-i-smaller c = simp (length-set) (omega arith)
-
-pub loop-i-preserved : goal.loop-i-preserved
-loop-i-preserved c = (simp (length-set) (omega arith), simp (length-set) (omega arith))
