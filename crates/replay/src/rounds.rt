@@ -2,6 +2,7 @@
 // memory does not agree.
 use crate::case::Case;
 use lending::reader::Reader;
+use numbers::{Refusal, number_of};
 
 // What lent words hold before a call: no stop and no time is it.
 const LENT: u32 = 0xaaaa_aaaa;
@@ -24,7 +25,7 @@ fn is_round(record: &mut Reader, case: &Case, round: &[u32]) -> bool {
 }
 
 // Whether a start round's number and round are as answered.
-fn start_agrees<F: FnOnce(&[u16], usize, &mut [u32]) -> u32>(
+fn start_agrees<F: FnOnce(&[u16], usize, &mut [u32]) -> Result<(), Refusal>>(
     start: F,
     record: &mut Reader,
     case: &Case,
@@ -34,8 +35,8 @@ fn start_agrees<F: FnOnce(&[u16], usize, &mut [u32]) -> u32>(
     requires { F.IsAlwaysCallable start }
 {
     round.fill(LENT);
-    let number = start(matrix, case.n, round);
-    number == case.number && is_round(record, case, round)
+    let answer = start(matrix, case.n, round);
+    number_of(&answer) == case.number && is_round(record, case, round)
 }
 
 // Whether a case of the start rounds agrees. The blocked one's answer stands first.
@@ -81,8 +82,8 @@ pub fn exact_case(record: &[u8], matrix: &mut [u16], table: &mut [u32], round: &
     table.fill(LENT);
     round.fill(LENT);
     let solved = exact::solve_tsp_exact(matrix, case.n, table, round);
-    solved.number == case.number
-        && solved.time == case.time
+    number_of(&solved) == case.number
+        && solved.unwrap_or(0) == case.time
         && is_written(table, case.used)
         && is_round(&mut record, &case, round)
 }

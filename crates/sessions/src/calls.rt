@@ -6,6 +6,7 @@ use lending::memory::{Memory, STOPS, lent, lent_mut};
 use lending::reader::Reader;
 use lending::session::{Session, State};
 use lending::told::{Call, Outcome, Told};
+use numbers::Refusal;
 use std::alloc::{AllocError, Global};
 
 // The state that a call is handed.
@@ -26,6 +27,14 @@ fn left(state: planner::State, draw: u64) -> State {
         held: state.held,
         time: state.time,
         draw,
+    }
+}
+
+// What a call gave that gives the state alone, or a refusal, which leaves the state as it came.
+fn settled(answer: Result<planner::State, Refusal>, came: planner::State, draw: u64) -> Outcome {
+    match answer {
+        Ok(after) => Outcome::settled(0, left(after, draw)),
+        Err(refusal) => Outcome::settled(refusal.number(), left(came, draw)),
     }
 }
 
@@ -52,21 +61,25 @@ fn make(call: Call, session: &Session, start: &[u32], memory: &mut Memory) -> Ou
     let mut draw = state.draw;
     let state = handed(state);
     match call {
-        Call::Load => {
-            let loaded = planner::load(
+        Call::Load => settled(
+            planner::load(
                 n, k, ka, matrix, near, alpha, round, places, queue, flags, scratch, journal,
                 state, start,
-            );
-            Outcome::settled(loaded.number, left(loaded.state, draw))
-        }
+            ),
+            state,
+            draw,
+        ),
         Call::Kick { kind } => {
             let kicked = planner::kick(
                 n, k, ka, matrix, near, alpha, round, places, queue, flags, scratch, journal,
                 state, kind, &mut draw,
             );
-            Outcome {
-                change: kicked.change,
-                ..Outcome::settled(kicked.number, left(kicked.state, draw))
+            match kicked {
+                Ok(kicked) => Outcome {
+                    change: kicked.change,
+                    ..Outcome::settled(0, left(kicked.state, draw))
+                },
+                Err(refusal) => settled(Err(refusal), state, draw),
             }
         }
         Call::Descend {
@@ -78,25 +91,30 @@ fn make(call: Call, session: &Session, start: &[u32], memory: &mut Memory) -> Ou
                 n, k, ka, matrix, near, alpha, round, places, queue, flags, scratch, journal,
                 state, keeps, step, budget,
             );
-            Outcome {
-                gain: descended.gain,
-                units: descended.units,
-                ended: descended.ended,
-                ..Outcome::settled(descended.number, left(descended.state, draw))
+            match descended {
+                Ok(descended) => Outcome {
+                    gain: descended.gain,
+                    units: descended.units,
+                    ended: descended.ended,
+                    ..Outcome::settled(0, left(descended.state, draw))
+                },
+                Err(refusal) => settled(Err(refusal), state, draw),
             }
         }
-        Call::Commit => {
-            let committed = planner::commit(
+        Call::Commit => settled(
+            planner::commit(
                 n, k, ka, matrix, near, alpha, round, places, queue, flags, scratch, journal, state,
-            );
-            Outcome::settled(committed.number, left(committed.state, draw))
-        }
-        Call::Undo => {
-            let undone = planner::undo(
+            ),
+            state,
+            draw,
+        ),
+        Call::Undo => settled(
+            planner::undo(
                 n, k, ka, matrix, near, alpha, round, places, queue, flags, scratch, journal, state,
-            );
-            Outcome::settled(undone.number, left(undone.state, draw))
-        }
+            ),
+            state,
+            draw,
+        ),
     }
 }
 
