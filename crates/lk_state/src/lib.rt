@@ -35,7 +35,7 @@ pub fn leg_word(a: Stop, b: Stop) -> u32
     edge(a, b)
 }
 
-// A leg is among the first `len` of a stack. The newest is the likeliest, so they are read from the top.
+// A leg is among the first `len` of a stack, which is read from the newest down.
 pub fn has<const N: usize>(legs: &[u32; N], len: usize, word: u32) -> bool
     requires { len ≤ N }
     ensures { result ≡ among (legs_in legs.now len) (leg_is word) }
@@ -74,8 +74,7 @@ pub fn push_steps(queue: &mut Queue, steps: &[u32; 100], len: usize)
     ensures same { SameQueue queue.old queue.new }
     ensures waits { Queued (push_all (waiting_in queue.old) (stops_in steps.now len)) queue.old.head queue.new }
 {
-    for i in 0..len {
-        let w = steps[i];
+    for &w in &steps[..len] {
         push_two(queue, Stop(w / 4096), Stop(w % 4096));
     }
 }
