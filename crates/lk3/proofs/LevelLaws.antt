@@ -131,13 +131,13 @@ stepped_on e q m s = rw e (record { gain_is = s.gain_is; made = record { is = s.
 
 -- and it gains nothing: the move is taken back
 pub stepped_back : (r₀ : Round) {k most : ℕ} {f f' : Found} {t' : Track} {queue : List ℕ} {head : Place} {count : ℕ} {j j₁ : List ℕ} {held h : ℕ} {r₁ r₂ r : Round} {ps₁ ps₂ ps : List Place} {queue' flags' j' : List ℕ} {gain : Time} {h₂ back : ℕ} {head' : Place} {count' : ℕ}
-    → f ≡ nothing (track_of r₀ j held) → f' ≡ nothing t' → Past (track_of r₀ j held) t' → 5 * held ≤ length j → Made 2 t' j held r₁ ps₁ j₁ h
+    → f ≡ nothing (track_of r₀ j held) → f' ≡ nothing (track_of r₁ j₁ h) → Past (track_of r₀ j held) t' → 5 * held ≤ length j → Made 2 t' j held r₁ ps₁ j₁ h
     → Stepped k f' queue head count j₁ h r₂ ps₂ queue' flags' j' gain h₂ head' count' → held ≤ h₂ → Back (track_of r₂ j' h₂) held r ps j' back
     → Stepped most f queue head count j held r ps queue' flags' j' 0 back head' count'
 unfolding nothing track_of
 stepped_back r₀ {t' = t'} {j = j} {held = held} {r₂ = r₂} {r = r} {j' = j'} {h₂ = h₂} {back = back} e e' past fits m s le b =
     let t : Track = track_of r₀ j held in
-    let same : track_of r₂ j' h₂ ≡ t' = s.made.is ∙ ap (λ (z : Found). z.track) e' in
+    let same : track_of r₂ j' h₂ ≡ t' = s.made.is ∙ ap (λ (z : Found). z.track) e' ∙ m.is in
     let long : length t.journal ≡ held = entries_of_length j held in
     let is : track_of r j' back ≡ t = b.is ∙ ap (rollback held) same ∙ ap (λ (n : ℕ). rollback n t') (sym long) ∙ past_rollback past in
     let grew : Grew j held j' h₂ = grew_grew m.grew s.made.grew in

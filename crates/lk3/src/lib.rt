@@ -30,6 +30,7 @@ use work::work::Work;
 // How many continuations a level tries, by its number, and 1 beyond.
 const BREADTH: [usize; 2] = [1, 1];
 
+#[tactic(auto, using(crate::proofs::ClosingLaws::breadth_read, laws::proofs::Lone3Laws::breadth3_one))]
 pub fn lk3_breadth(level: usize) -> usize
     ensures { result ≡ breadth3 level }
 {
@@ -69,6 +70,7 @@ pub fn grow(mut st: LkState, t2: Stop, mv: Move) -> LkState
 }
 
 // Pushes the stops of a step that closes by a move: t1, the first t2, those of the moves before, its own.
+#[tactic(auto, using(improve::proofs::StepLaws::pushed, improve::proofs::StepLaws::waits_is, crate::proofs::LevelLaws::queued_two, crate::proofs::LevelLaws::queued_three))]
 pub fn push_closed(queue: &mut Queue, t1: Stop, st: &LkState, mv: Move)
     requires six { Six (length queue.old.words.now) t1.0 st.now.first mv.t3.0 mv.t4.0 mv.t5.0 mv.t6.0 }
     requires len_bound { st.now.steps_len ≤ 100 }
@@ -168,6 +170,7 @@ pub fn lk3_level_dir(
 }
 
 // The step with t2 on one side of t1.
+#[tactic(auto, using(crate::proofs::FromLaws::side_is, crate::proofs::LevelLaws::stepped_more), unfolding(rules::specs::Journal::track_of, rules::specs::Plan::leg_of))]
 pub fn lk3_side(plan: &Plan, work: &mut Work, fwd: bool, t1: Stop) -> u32
     requires step3 { Step3 plan.now work.old t1.0 }
     requires room { 5 * (work.old.track.now.held + 100) ≤ length work.old.track.now.journal.now }
@@ -181,6 +184,7 @@ pub fn lk3_side(plan: &Plan, work: &mut Work, fwd: bool, t1: Stop) -> u32
 }
 
 // The step from t1, with t2 after it, then before it; 0 below 5 stops.
+#[tactic(auto, using(crate::proofs::FromLaws::room_again, crate::proofs::LevelLaws::stepped_more, laws::proofs::Lk3FromLaws::from_first, laws::proofs::Lk3FromLaws::side_none), unfolding(rules::specs::Journal::track_of))]
 pub fn lk3_from(plan: &Plan, work: &mut Work, t1: Stop) -> u32
     requires size { plan.now.matrix.n ≡ length work.old.track.now.stops.now }
     requires some { 1 ≤ plan.now.near.count }

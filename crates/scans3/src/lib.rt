@@ -32,7 +32,7 @@ pub fn out5(g2: u32, d45: u32, t5: Stop, t1: Stop, next: Stop, prev: Stop) -> bo
 
 // The first move that closes with a gain, else the best to go on with: t3 from t2's alpha list, t4 before, then after t3, t5 from t4's alpha
 // list. An entry that fails is skipped, and the scan goes on.
-#[tactic(auto, using(crate::proofs::ScanLaws::alpha_long, crate::proofs::ScanLaws::rich3, crate::proofs::ScanLaws::rich5))]
+#[tactic(auto, using(crate::proofs::ScanLaws::alpha_long, crate::proofs::ScanLaws::rich3, crate::proofs::ScanLaws::rich5, crate::proofs::ScanLaws::none_gain, crate::proofs::ScanLaws::two_small, crate::proofs::ScanLaws::all3, crate::proofs::ScanLaws::done3, crate::proofs::ScanLaws::skip3, crate::proofs::ScanLaws::try3, crate::proofs::ScanLaws::done4, crate::proofs::ScanLaws::hit4, crate::proofs::ScanLaws::miss4, crate::proofs::ScanLaws::done5, crate::proofs::ScanLaws::skip5, crate::proofs::ScanLaws::hit5, crate::proofs::ScanLaws::miss5, seeks::proofs::MayLaws::may_two), unfolding(crate::specs::Scans::scan_of))]
 pub fn lk3_scan(
     plan: &Plan,
     round: &Round,

@@ -135,6 +135,7 @@ pub fn seek_before(
 }
 
 // t4 after t3: only a t5 between t2 and t3; t6 is ahead of it, then behind it.
+#[tactic(auto, using(crate::proofs::FifthLaws::outside, crate::proofs::FifthLaws::segment_closes, crate::proofs::FifthLaws::segment_alone, crate::proofs::FifthLaws::inner_too))]
 pub fn seek_after(
     plan: &Plan,
     round: &Round,

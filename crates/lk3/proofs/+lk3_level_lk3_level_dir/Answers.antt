@@ -1,9 +1,8 @@
 use Prim.Native.Nat.{◌+◌, ◌<◌}
-use mathlib.Core.Path.{◌≡◌, refl, ap, ◌∙◌}
+use mathlib.Core.Path.{◌≡◌, refl}
 use native.Mathlib.Omega.{arith}
 use borrow.Author.Tests.{ltb-true, ltb-false}
 use Rattle.rules.specs.Journal.{track_of}
-use Rattle.rules.specs.Improve.{nothing}
 use Rattle.legs.specs.Plans.{plan_in}
 use Rattle.journal.specs.Tracks.{track_in}
 use Rattle.improve.proofs.StepLaws.{stepped_none}
@@ -81,7 +80,7 @@ lk3_level_dir-returns-clause-stepped t c = let a = c.args in let s = c.requires.
     let next = found_at p a.t1.0 c.grow-on.result (track_in h.new.track) m.t6.0 m.gain (a.level + 1) in
     let o = c.lk3_level-gain.ensures.stepped in
     let fails : next.gain ≡ 0 = omega (arith, o.gain_is, c.if-gain-gt0.false) in
-    let none = found_none p a.t1.0 c.grow-on.result _ m.t6.0 m.gain (a.level + 1) fails ∙ ap nothing h.ensures.made.is in
+    let none = found_none p a.t1.0 c.grow-on.result _ m.t6.0 m.gain (a.level + 1) fails in
     let past = past_move w.stops.now w.places.now w.journal.now w.held a.fwd m.case m.gain a.t1.0 a.t2.0 m.t3.0 m.t4.0 m.t5.0 m.t6.0 w.tied s.low1 v.low2 lasts _ refl in
     rw c.rollback.ensures.words
     (stepped_back w.stops.now (found_fails p a.t1.0 a.st (track_in w) a.t2.0 a.g a.level v.above a.fwd c.requires.fwd_value _ m.case m.gain m.t3.0 m.t4.0 m.t5.0 m.t6.0 is some more c.grow-on.result c.grow-on.ensures _ h.ensures.made.is fails) none past (omega (arith, v.room)) h.ensures.made o (omega (arith, o.made.grew.more, h.ensures.made.grew.more)) (rw c.rollback.ensures.words at c.rollback.ensures.back))

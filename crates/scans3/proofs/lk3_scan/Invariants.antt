@@ -1,4 +1,4 @@
-use Prim.Native.Nat.{◌+◌, ◌-◌}
+use Prim.Native.Nat.{◌+◌}
 use Rattle.tries.specs.Picks.{legs_in as leg_at}
 use Rattle.seeks.specs.Seeks.{pick_in, may_at}
 use Rattle.scans3.specs.Scans.{scan_at}
