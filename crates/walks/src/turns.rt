@@ -150,9 +150,11 @@ fn reshape(matrix: &Matrix, work: &mut Work, best: &[u32], state: &mut u64) -> u
     ensures same { SameWork work.old work.new }
     ensures shook { Shook (shaken (leg_in matrix.now.n matrix.now.times.now) 32 0 (load_of (recount (leg_in matrix.now.n matrix.now.times.now)) best.now) state.old) (bare_in matrix.now work.new) (carried_in work.new result) state.new }
 {
-    let stops = &mut *work.track.stops;
-    let places = &mut *work.track.places;
-    let flags = &mut *work.queue.flags;
+    let track = &mut *work.track;
+    let queue = &mut *work.queue;
+    let stops = &mut *track.stops;
+    let places = &mut *track.places;
+    let flags = &mut *queue.flags;
     let time = load_round(matrix, stops, places, flags, best);
     shake(matrix, work, state, time)
 }
