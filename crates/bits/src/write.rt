@@ -12,7 +12,6 @@ fn put(a: &mut [u8], at: usize, bytes: &[u8])
 }
 
 // 16 bits at byte at.
-
 #[tactic(auto, using(crate::proofs::WriteLaws::bytes_of_16))]
 pub fn put16(a: &mut [u8], at: usize, v: u32)
     requires { at + 2 ≤ length a.old }
@@ -22,7 +21,6 @@ pub fn put16(a: &mut [u8], at: usize, v: u32)
 }
 
 // 32 bits at byte at.
-
 #[tactic(auto, using(crate::proofs::WriteLaws::bytes_of_32))]
 pub fn put32(a: &mut [u8], at: usize, v: u32)
     requires { at + 4 ≤ length a.old }
@@ -32,7 +30,6 @@ pub fn put32(a: &mut [u8], at: usize, v: u32)
 }
 
 // Two numbers of 12 bits at byte at.
-
 #[tactic(auto, using(crate::proofs::WriteLaws::bytes_of_pair))]
 pub fn put_pair(a: &mut [u8], at: usize, x: u32, y: u32)
     requires { (at + 3 ≤ length a.old) × (x < 4096) × (y < 4096) }
@@ -42,7 +39,6 @@ pub fn put_pair(a: &mut [u8], at: usize, x: u32, y: u32)
 }
 
 // A last number of 12 bits at byte at, and zero bits.
-
 #[tactic(auto, using(crate::proofs::WriteLaws::bytes_of_last))]
 pub fn put_last(a: &mut [u8], at: usize, v: u32)
     requires { (at + 2 ≤ length a.old) × (v < 4096) }

@@ -13,10 +13,12 @@ use Rattle.rules.specs.Moves.{Case, two, flips, segment, inner, seq3}
 use Rattle.rules.specs.Plan.{leg_in, leg_of, near_of}
 use Rattle.rules.specs.Improve.{Trial, ends_of, Found, nothing, first_closing, touching, improve, or_else, improve_both}
 use Rattle.laws.proofs.ChoiceLaws.{either_if}
+use Rattle.legs.specs.declared.plan.Plan.{Plan}
+use Rattle.moves.specs.declared.moves.Move.{Move}
 use Rattle.moves.specs.Moves.{number_of, case_of}
 use Rattle.tries.specs.Picks.{Pick, pick, none, first_of}
-use Rattle.scans.specs.Scans.{found_in}
-use Rattle.improve.specs.Steps.{plan_of, near_plan, trial_of}
+use Rattle.scans.specs.Scans.{found_in, found_on}
+use Rattle.improve.specs.Steps.{near_plan, near_in, plan_with, trial_of}
 
 gain_of : Pick → Time
 gain_of (pick c g t3 t4 t5 t6) = g
@@ -69,25 +71,25 @@ unfolding touching
 touch vs zero t us h = absurd (omega arith)
 touch vs (suc g) t us h = refl
 
-module _ (n : ℕ) (matrix : List Time) (k : ℕ) (near : List Stop) (fwd : Bool) (t1 : Stop) (t : Track) (c : ℕ) (g : Time) (t3 t4 t5 t6 : Stop) (is : pick c g t3 t4 t5 t6 ≡ found_in n matrix k near fwd t.round t1) where
+module _ (p : Plan) (fwd : Bool) (t1 : Stop) (t : Track) (m : Move) (is : pick m.case m.gain m.t3.0 m.t4.0 m.t5.0 m.t6.0 ≡ found_on p fwd t.round t1) where
   -- nothing closes with a gain
-  pub improve_none : g ≤ 0 → improve (near_plan n matrix k near) fwd t1 t ≡ nothing t
+  pub improve_none : m.gain ≤ 0 → improve (near_in p) fwd t1 t ≡ nothing t
   unfolding improve near_plan leg_of near_of found_in touching nothing
-  improve_none h = rw (closing_none (leg_in n matrix) fwd t1 (ahead fwd t.round t1) t _ c g t3 t4 t5 t6 is h)
+  improve_none h = rw (closing_none (leg_in p.matrix.n p.matrix.times.now) fwd t1 (ahead fwd t.round t1) t _ m.case m.gain m.t3.0 m.t4.0 m.t5.0 m.t6.0 is h)
 
   -- the first that does
-  pub improve_some : (t2 : Stop) → t2 ≡ ahead fwd t.round t1 → 0 < g
-      → improve (near_plan n matrix k near) fwd t1 t ≡ record { gain = g; track = seq3 fwd (case_of c) t1 t2 t3 t4 t5 t6 t; touched = t1 ∷ t2 ∷ ends_of (trial_of c t3 t4 t5 t6) }
+  pub improve_some : (t2 : Stop) → t2 ≡ ahead fwd t.round t1 → 0 < m.gain
+      → improve (near_in p) fwd t1 t ≡ record { gain = m.gain; track = seq3 fwd (case_of m.case) t1 t2 m.t3.0 m.t4.0 m.t5.0 m.t6.0 t; touched = t1 ∷ t2 ∷ ends_of (trial_of m.case m.t3.0 m.t4.0 m.t5.0 m.t6.0) }
   unfolding improve near_plan leg_of near_of found_in carried
   improve_some t2 e h =
-      rw (e, closing_some (leg_in n matrix) fwd t1 (ahead fwd t.round t1) t _ c g t3 t4 t5 t6 is h) (touch (t1 ∷ ahead fwd t.round t1 ∷ []) g _ _ h)
+      rw (e, closing_some (leg_in p.matrix.n p.matrix.times.now) fwd t1 (ahead fwd t.round t1) t _ m.case m.gain m.t3.0 m.t4.0 m.t5.0 m.t6.0 is h) (touch (t1 ∷ ahead fwd t.round t1 ∷ []) m.gain _ _ h)
 
-module _ (n : ℕ) (matrix : List Time) (k : ℕ) (near : List Stop) (ka : ℕ) (alpha : List Stop) (t1 : Stop) (t : Track) where
+module _ (p : Plan) (ka : ℕ) (alpha : List Stop) (t1 : Stop) (t : Track) where
   -- it reads no alpha list
-  pub improve_any : (fwd : Bool) → improve (near_plan n matrix k near) fwd t1 t ≡ improve (plan_of n matrix k near ka alpha) fwd t1 t
+  pub improve_any : (fwd : Bool) → improve (near_in p) fwd t1 t ≡ improve (plan_with p ka alpha) fwd t1 t
   unfolding improve near_plan leg_of near_of
   improve_any fwd = refl
 
-  pub both_is : or_else (improve (plan_of n matrix k near ka alpha) true t1 t) (improve (plan_of n matrix k near ka alpha) false t1) ≡ improve_both (plan_of n matrix k near ka alpha) t1 t
+  pub both_is : or_else (improve (plan_with p ka alpha) true t1 t) (improve (plan_with p ka alpha) false t1) ≡ improve_both (plan_with p ka alpha) t1 t
   unfolding improve_both
   both_is = refl

@@ -19,6 +19,7 @@ use scans::find_move;
 use work::work::Work;
 
 // Pushes two stops.
+#[tactic(auto, unfolding(rules::specs::Queue::push_all))]
 pub fn push_two(queue: &mut Queue, a: Stop, b: Stop)
     requires a_low { a.0 < length queue.old.words.now }
     requires b_low { b.0 < length queue.old.words.now }

@@ -7,9 +7,6 @@ use lib.IntN.{pos, negsuc, ◌-ℤ◌}
 use mir.Syntax.{w32}
 use mir.Val.{SFits}
 
-pub pos_fits : (a : ℕ) → a < 2147483648 → SFits w32 (pos a)
-pos_fits a h = record { sfits = h }
-
 pub sub-fits : (a b : ℕ) → a < 2147483648 → b < 2147483648 → SFits w32 (pos a -ℤ pos b)
 sub-fits a zero ha hb = record { sfits = omega arith }
 sub-fits a (suc b) ha hb = go (ltb a (suc b))

@@ -1,20 +1,14 @@
--- The stops beside the cuts: the ring's place by its remainder, and stops below n in a list.
+-- The stops beside the cuts: the ring's place by its remainder.
 use Prim.Native.Nat.{ℕ, ◌+◌, ◌<◌}
 use mathlib.Core.Path.{◌≡◌, sym, ◌∙◌}
-use mathlib.Core.List.{List}
 use lib.ListN.{length}
-use Rattle.rules.specs.Words.{Stop, Place, Round}
+use Rattle.rules.specs.Words.{Place, Round}
 use Rattle.rules.specs.Lists.{at}
 use Rattle.laws.proofs.TurnLaws.{turn_mod}
-use Rattle.laws.proofs.EveryLaws.{Below, below_at}
 use Rattle.ring.specs.Around.{wrapped, around}
-use Rattle.ring.specs.Legs.{Stops}
 use Rattle.ring.proofs.TurnAtLaws.{at_turn}
 use Rattle.kicks.specs.Exchanging.{stop_on}
 
 pub stop_wrapped : (r : Round) (start : Place) (k : ℕ) → start < length r → k < length r → at r (wrapped (length r) (start + k)) ≡ stop_on r start k
 unfolding stop_on around
 stop_wrapped r start k hs hk = sym (at_turn start k r hs hk) ∙ turn_mod start k r hs hk
-
-pub stops_below : (l : List Stop) (n : ℕ) → Below n l → Stops l n
-stops_below l n b = record { below = below_at n l b }

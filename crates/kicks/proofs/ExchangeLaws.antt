@@ -17,7 +17,7 @@ use Rattle.journal.specs.Journalled.{Moved}
 use Rattle.queue.specs.Lines.{Waits}
 use Rattle.kicks.specs.declared.cuts.Cut.{Cut}
 use Rattle.kicks.specs.declared.ends.Ends.{Ends}
-use Rattle.kicks.specs.Exchanging.{stop_on, joining, queued, joints_of, ends_queued, exchanged, EndsOf, Eight, exchange_kick, exchanging}
+use Rattle.kicks.specs.Exchanging.{stop_on, joining, queued, joints_of, ends_queued, exchanged, EndsOf, exchange_kick, exchanging}
 use Rattle.kicks.specs.Kicking.{Made}
 use Rattle.kicks.proofs.KickingLaws.{tracked_moved, waits_as}
 
@@ -25,32 +25,6 @@ use Rattle.kicks.proofs.KickingLaws.{tracked_moved, waits_as}
 pub exchange_segment : (d : Legs) (a b c : ℕ) (start : Place) (t : Track) → exchange_kick false d a b c start t ≡ segment_kick d a b c start t
 unfolding exchange_kick segment_kick stop_on queued
 exchange_segment d a b c start t = refl
-
--- the ends are stops
-pub ends_eight : {r : Round} {cut : Cut} {e : Ends} (n : ℕ) → length r ≡ n → EndsOf r cut e → Eight n e
-ends_eight n l e = record {
-  p_low = rw (← l) e.p_is.below;
-  x0_low = rw (← l) e.x0_is.below;
-  x1_low = rw (← l) e.x1_is.below;
-  y0_low = rw (← l) e.y0_is.below;
-  y1_low = rw (← l) e.y1_is.below;
-  z0_low = rw (← l) e.z0_is.below;
-  z1_low = rw (← l) e.z1_is.below;
-  q_low = rw (← l) e.q_is.below;
-}
-
--- X and Z the other way round
-pub eight_other : {n : ℕ} {e : Ends} → Eight n e → Eight n (exchanged e)
-eight_other e = record {
-  p_low = e.p_low;
-  x0_low = e.z0_low;
-  x1_low = e.z1_low;
-  y0_low = e.y0_low;
-  y1_low = e.y1_low;
-  z0_low = e.x0_low;
-  z1_low = e.x1_low;
-  q_low = e.q_low;
-}
 
 module _ (bridge : Bool) (d : Legs) (cut : Cut) (r : Round) (journal : List ℕ) (held : ℕ) {e : Ends} (g : EndsOf r cut e) where
   -- the ends, their legs and the rotation make up the kick

@@ -3,26 +3,16 @@ use Prim.Native.Nat.{ℕ, ◌+◌, ◌≤◌}
 use mathlib.Core.Path.{◌≡◌, sym, ap, ◌∙◌}
 use mathlib.Core.List.{List, ◌++◌}
 use native.Mathlib.Omega.{arith}
-use lib.ListN.{length}
 use Rattle.rules.specs.Words.{Stop, Place, Round, Time}
 use Rattle.rules.specs.Queue.{push_all, waiting}
 use Rattle.rules.specs.Journal.{Track}
 use Rattle.rules.specs.Kicks.{Kicked, and_then}
-use Rattle.rules.specs.SharedWords.{Tied}
 use Rattle.laws.proofs.QueueLaws.{push_all_join}
-use Rattle.ring.specs.Legs.{IsTime, Stops}
-use Rattle.legs.specs.declared.matrix.Matrix.{Matrix}
+use Rattle.ring.specs.Legs.{IsTime}
 use Rattle.journal.specs.Journalled.{Moved}
 use Rattle.journal.proofs.GrewLaws.{grew_grew}
 use Rattle.queue.specs.Lines.{Waits}
-use Rattle.work.specs.declared.work.Work.{Work}
-use Rattle.work.specs.Works.{SameWork}
-use Rattle.kicks.specs.declared.Kicked.{Kicked as KickedOf}
-use Rattle.kicks.specs.Kicking.{Ready, Tracked, Made, MadeOn}
-
--- the stops of a round
-pub tied_stops : {r : Round} {places : List Place} (n : ℕ) → length r ≡ n → Tied r places → Stops r n
-tied_stops {r} n e t = record { below = λ i h. rw (← e) (t.stop i h) }
+use Rattle.kicks.specs.Kicking.{Tracked, Made}
 
 module _ (q l : List Stop) {head : Place} {queue flags : List ℕ} {head' : Place} {count : ℕ} (w : Waits (push_all q l) head queue flags head' count) where
   -- the same list
@@ -32,15 +22,6 @@ module _ (q l : List Stop) {head : Place} {queue flags : List ℕ} {head' : Plac
   -- more behind them
   pub waits_more : (m : List Stop) {queue' flags' : List ℕ} {head'' : Place} {count' : ℕ} → Waits (push_all (waiting queue head' count) m) head' queue' flags' head'' count' → Waits (push_all q (l ++ m)) head queue' flags' head'' count'
   waits_more m v = record { is = v.is ∙ ap (λ (x : List Stop). push_all x m) w.is ∙ sym (push_all_join q l m); head_is = v.head_is ∙ w.head_is; line = v.line }
-
--- ---- memory to work in
-module _ {free : ℕ} {m : Matrix} {a : Work} (g : Ready free m a) where
-  pub ready_fewer : (less : ℕ) → less ≤ free → Ready less m a
-  ready_fewer less h = record { two = g.two; size = g.size; room = omega (arith, g.room) }
-
-  -- after a kick there is that much less room
-  pub ready_after : (less : ℕ) {k : Kicked} {most legs : ℕ} (b : Work) {r : KickedOf} → SameWork a b → MadeOn k most legs a b r → most + less ≤ free → Ready less m b
-  ready_after less b s k h = record { two = omega (arith, g.two, s.size); size = omega (arith, g.size, s.size); room = omega (arith, g.room, s.room, k.moved.high) }
 
 -- ---- entries that are journalled
 module _ {t : Track} {journal : List ℕ} {held : ℕ} {round : Round} {places : List Place} {journal' : List ℕ} {held' : ℕ} where

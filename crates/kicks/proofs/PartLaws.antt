@@ -6,7 +6,7 @@ use mathlib.Core.List.{List}
 use native.Mathlib.Omega.{arith}
 use lib.ListN.{length, take}
 use borrow.Author.Tests.{lt-ltb, le-ltb}
-use Rattle.rules.specs.Words.{Stop, Place, Round, Time, Legs}
+use Rattle.rules.specs.Words.{Stop, Place, Round, Legs}
 use Rattle.rules.specs.Draws.{◌to◌, drawn, draws, moved}
 use Rattle.rules.specs.Ring.{prev, turn, path_cost, recount}
 use Rattle.rules.specs.Queue.{push_all}

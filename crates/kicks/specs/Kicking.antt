@@ -1,6 +1,6 @@
 -- What the kicks ask and promise. Assumes nothing.
 use Rattle.std.specs.Prelude.{ℕ, ◌+◌, ◌-◌, ◌*◌, ◌≤◌, ◌<◌, ◌≡◌, true, List, [], ◌∷◌, ltb, length, drop}
-use Rattle.rules.specs.Words.{Stop, Place, Time, Round, Legs}
+use Rattle.rules.specs.Words.{Stop, Place, Round, Legs}
 use Rattle.rules.specs.Lists.{when◌then◌else◌, at}
 use Rattle.rules.specs.Plan.{leg_in}
 use Rattle.rules.specs.Draws.{◌to◌, draws}

@@ -16,16 +16,17 @@ pub struct Cut {
 }
 
 // The longest segment: 200, or a third of the other stops.
+#[tactic(auto, unfolding(rules::specs::Kicks::longest))]
 fn longest(n: usize) -> u32
     requires le_n { 2 ≤ n }
     requires n_bound { n ≤ 4096 }
     ensures { Longest n result }
 {
-    let third = (n - 1) / 3;
-    third.min(200) as u32
+    ((n - 1) / 3).min(200) as u32
 }
 
 // The kind that is carried out: where a segment is too short, a global kick.
+#[tactic(auto, unfolding(rules::specs::Kicks::kind_at))]
 pub fn kind_at(n: usize, kind: u32) -> u32
     requires le_n { 2 ≤ n }
     requires n_bound { n ≤ 4096 }
@@ -39,10 +40,7 @@ fn draw_middle(state: &mut u64, kind: u32, high: u32) -> u32
     requires { 1 ≤ high }
     ensures { Middle kind high state.old state.new result }
 {
-    if kind == 0 {
-        return draw(state, 1, high);
-    }
-    0
+    if kind == 0 { draw(state, 1, high) } else { 0 }
 }
 
 // Draws a segment kick: a, b, c, start.
@@ -67,6 +65,7 @@ pub fn draw_cut(state: &mut u64, n: usize, kind: u32) -> Cut
 }
 
 // Draws a double bridge: the lengths of A, B and C. D is the rest, and B, C, D are the segments.
+#[tactic(auto, using(laws::proofs::KickKindLaws::bridge_drawn))]
 pub fn draw_bridge(state: &mut u64, n: usize) -> Cut
     requires le_n { 8 ≤ n }
     requires n_bound { n ≤ 4096 }

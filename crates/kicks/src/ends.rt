@@ -72,6 +72,7 @@ impl Ends {
     }
 
     // The time of the legs that join p, X, Y, Z and q; X and Z where Y, of b places, is empty.
+    #[tactic(auto, unfolding(crate::specs::Exchanging::joining))]
     pub fn joints(self, matrix: &Matrix, b: usize) -> u32
         requires { Eight matrix.now.n self }
         ensures { IsTime 4 (joints_of (legs_in matrix.now) b self) result }
@@ -96,14 +97,13 @@ impl Ends {
         if bridge {
             let stops = [e.q.0, e.p.0, e.x0.0, e.x1.0, e.y0.0, e.y1.0, e.z0.0, e.z1.0];
             queue.push_all(&stops);
-            return;
+        } else {
+            let outer = [e.p.0, e.x0.0, e.x1.0, e.z0.0, e.z1.0, e.q.0];
+            queue.push_all(&outer);
+            if b != 0 {
+                let inner = [e.y0.0, e.y1.0];
+                queue.push_all(&inner);
+            }
         }
-        let outer = [e.p.0, e.x0.0, e.x1.0, e.z0.0, e.z1.0, e.q.0];
-        queue.push_all(&outer);
-        if b == 0 {
-            return;
-        }
-        let inner = [e.y0.0, e.y1.0];
-        queue.push_all(&inner);
     }
 }

@@ -107,6 +107,7 @@ fn bridge_kick(matrix: &Matrix, work: &mut Work, state: &mut u64) -> Kicked
 }
 
 // The global kick.
+#[tactic(auto, using(crate::proofs::GlobalLaws::global_shuffle), unfolding(rules::specs::Journal::track_of))]
 pub fn global_kick(matrix: &Matrix, work: &mut Work, state: &mut u64) -> Kicked
     requires ready { Ready 30 matrix.now work.old }
     ensures same { SameWork work.old work.new }
@@ -119,7 +120,8 @@ pub fn global_kick(matrix: &Matrix, work: &mut Work, state: &mut u64) -> Kicked
     }
 }
 
-// A kick: 0 segments X Y Z, 1 segments X Z, 2 global.
+// A kick: 0 segments X Y Z, 1 segments X Z, 2 global; numbers, as the C interface and the sheets have them.
+#[tactic(auto, using(laws::proofs::KickKindLaws::kind_stays))]
 pub fn kick(matrix: &Matrix, work: &mut Work, state: &mut u64, kind: u32) -> Kicked
     requires ready { Ready 30 matrix.now work.old }
     requires kind_bound { kind ≤ 2 }

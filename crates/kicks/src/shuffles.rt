@@ -10,6 +10,7 @@ use journal::track::Track;
 use legs::Place;
 
 // Exchanges the stops r and k places after start, where they are two.
+#[tactic(auto, using(journal::proofs::GrewLaws::grew_self))]
 fn exchange_drawn(track: &mut Track, start: Place, r: u32, k: u32)
     requires k_low { start.0 + k < length track.old.stops.now }
     requires r_le_k { r ≤ k }
@@ -17,10 +18,9 @@ fn exchange_drawn(track: &mut Track, start: Place, r: u32, k: u32)
     ensures same { SameTrack track.old track.new }
     ensures moved { Moves (when eqb r k then track_in track.old else doing (swap_of (start.0 + r) (start.0 + k)) (track_in track.old)) track.old track.new }
 {
-    if r == k {
-        return;
+    if r != k {
+        track.swap(Place(start.0 + r), Place(start.0 + k));
     }
-    track.swap(Place(start.0 + r), Place(start.0 + k));
 }
 
 // Shuffles len places from start on: a draw from 0 to k for each, k falling from len - 1 to 1.

@@ -10,24 +10,28 @@ use Rattle.rules.specs.Words.{Stop, Place, Time, Round}
 use Rattle.rules.specs.Ring.{leg, ahead}
 use Rattle.rules.specs.Journal.{Track, track_of}
 use Rattle.rules.specs.Queue.{push_all, waiting}
-use Rattle.rules.specs.Plan.{Plan, leg_in, leg_of, near_of}
+use Rattle.rules.specs.Plan.{Plan as PlanOf, leg_in, leg_of, near_of}
+use Rattle.legs.specs.declared.plan.Plan.{Plan}
+use Rattle.ring.specs.declared.round.Round.{Round as Shown}
+use Rattle.journal.specs.declared.track.Track.{Track as Kept}
+use Rattle.journal.specs.Tracks.{track_in}
 use Rattle.rules.specs.Improve.{Trial, Found, nothing, or_else}
 use Rattle.rules.specs.Step.{begin, best}
 use Rattle.rules.specs.Lk.{Best, breadth, deepen, try_each, conts, cont_of, may_flip, lk_side, lk_from}
 use Rattle.laws.proofs.ChoiceLaws.{by_gain}
 use Rattle.laws.proofs.JournalLaws.{entries_of_length}
-use Rattle.journal.specs.Journalled.{Journalled, Grew, Back}
+use Rattle.journal.specs.Journalled.{Grew, Back}
 use Rattle.journal.proofs.GrewLaws.{grew_grew, grew_back}
 use Rattle.queue.specs.Lines.{InLine, Waits}
 use Rattle.moves.specs.Moves.{Made}
-use Rattle.improve.specs.Steps.{plan_of, near_plan, Stepped}
-use Rattle.improve.proofs.StepLaws.{stepped_some}
+use Rattle.work.specs.declared.work.Work.{Work}
+use Rattle.improve.specs.Steps.{near_plan, plan_with, Stepped, Steps}
+use Rattle.improve.proofs.StepLaws.{stepped_none, stepped_some}
 use Rattle.lk_state.specs.Stacks.{stops_in}
-use Rattle.lk_scans.specs.Picked.{step_in, conts_in, cont_is, trial_in, shown_from, Firsts, IsAt}
+use Rattle.lk_scans.specs.Picked.{step_in, conts_in, conts_on, cont_is, trial_in, shown_from, Firsts, IsAt}
 use Rattle.lk_scans.specs.declared.Pick.{Pick}
 use Rattle.lk_scans.specs.declared.Picks.{Picks}
-use Rattle.lk_scans.proofs.ShownLaws.{shown_none, shown_some}
-use Rattle.lk.proofs.WalkLaws.{less_or}
+use Rattle.lk_scans.proofs.ShownLaws.{shown_none, shown_some, shown_last}
 use Rattle.lk.specs.Walks.{led, found_of, Walked}
 
 -- ---- what a best closed gain is as what is found
@@ -49,57 +53,47 @@ module _ (t1 t2 : Stop) (t : Track) (b : Best) where
 
 -- ---- a walk's end, rolled back
 module _ {goal : Best} {t : Track} {j : List ℕ} {held : ℕ} {r : Round} {ps : List Place} {j' : List ℕ} {h : ℕ} {gain : Time} {steps : List ℕ} {len mark : ℕ} (w : Walked goal t j held r ps j' h gain steps len mark) (fits : 5 * held ≤ length j)
-    {r' : Round} {ps' : List Place} {h' : ℕ} (bk : Back (track_of r j' h) mark r' ps' j' h') where
-  made_back : Made 25 goal.step.track j held r' ps' j' h'
+    {r' : Round} {ps' : List Place} {j'' : List ℕ} {h' : ℕ} (bk : Back (track_of r j' h) mark r' ps' j'' h') (same : j'' ≡ j') where
+  made_back : Made 25 goal.step.track j held r' ps' j'' h'
   made_back = record {
     is = bk.is ∙ w.track_is;
     tied = bk.tied;
     good = bk.good;
-    grew = subst (Grew j held j') (sym bk.to_mark) (grew_back j j' held h mark fits w.low w.high w.grew);
+    grew = subst (λ (k : List ℕ). Grew j held k h') (sym same) (subst (Grew j held j') (sym bk.to_mark) (grew_back j j' held h mark fits w.low w.high w.grew));
     high = omega (arith, bk.to_mark, w.high, w.most);
   }
 
-  pub deep_none : (t1 t2 : Stop) {queue flags : List ℕ} {head : Place} {count : ℕ} → gain ≡ 0 → InLine queue flags head count → Stepped 25 (found_of t1 t2 t goal) queue head count j held r' ps' queue flags j' gain h' head count
+  pub deep_none : (t1 t2 : Stop) {queue flags : List ℕ} {head : Place} {count : ℕ} → gain ≡ 0 → InLine queue flags head count → Stepped 25 (found_of t1 t2 t goal) queue head count j held r' ps' queue flags j'' 0 h' head count
   unfolding nothing push_all
   deep_none t1 t2 z l =
       let m = made_back in
       rw (found_none t1 t2 t goal (sym w.gain_is ∙ z))
       (record {
-        gain_is = z;
+        gain_is = refl;
         made = record { is = m.is ∙ w.none z; tied = m.tied; good = m.good; grew = m.grew; high = m.high };
         waits = record { is = refl; head_is = refl; line = l };
       })
 
   pub deep_some : (t1 t2 : Stop) {queue queue' flags' : List ℕ} {head head' : Place} {count count' : ℕ} → 0 < gain → Waits (push_all (waiting queue head count) (t1 ∷ t2 ∷ stops_in steps len)) head queue' flags' head' count'
-      → Stepped 25 (found_of t1 t2 t goal) queue head count j held r' ps' queue' flags' j' gain h' head' count'
+      → Stepped 25 (found_of t1 t2 t goal) queue head count j held r' ps' queue' flags' j'' gain h' head' count'
   deep_some t1 t2 z q =
       stepped_some
       (found_some t1 t2 t goal (omega (arith, w.gain_is)) ∙ (λ i. record { gain = sym w.gain_is i; track = goal.step.track; touched = t1 ∷ t2 ∷ sym w.stops_is i }))
       made_back q
 
--- ---- one step after another that found nothing
-module _ (r : Round) {most : ℕ} {queue : List ℕ} {head : Place} {count : ℕ} {j : List ℕ} {held : ℕ} {r' : Round} {ps' : List Place} {queue' flags' j' : List ℕ} {gain' : Time} {h' : ℕ} {head' : Place} {count' : ℕ}
-    (s : Stepped most (nothing (track_of r j held)) queue head count j held r' ps' queue' flags' j' gain' h' head' count') where
-  pub none_track : track_of r' j' h' ≡ track_of r j held
+-- ---- one step after another: the first found nothing
+module _ (a b : Work) {most : ℕ} {gain' : Time} (s : Steps most (nothing (track_in a.track.now)) a b gain') where
+  pub none_track : track_in b.track.now ≡ track_in a.track.now
   unfolding nothing
   none_track = s.made.is
 
-  pub none_held : h' ≡ held
+  pub none_held : b.track.now.held ≡ a.track.now.held
   unfolding track_of
-  none_held = sym (entries_of_length j' h') ∙ ap (λ (t : Track). length t.journal) none_track ∙ entries_of_length j held
+  none_held = sym (entries_of_length b.track.now.journal.now b.track.now.held) ∙ ap (λ (t : Track). length t.journal) none_track ∙ entries_of_length a.track.now.journal.now a.track.now.held
 
-  pub none_round : r' ≡ r
-  unfolding track_of
-  none_round = ap (λ (t : Track). t.round) none_track
-
-  -- there is room as before
-  pub none_room : {free : ℕ} → 5 * (held + free) ≤ length j → length j' ≡ length j → Journalled (length r') j' h' free
-  none_room h e = record { good = s.made.good; room = omega (arith, none_held) }
-
-  pub stepped_after : (f : Track → Found) {r'' : Round} {ps'' : List Place} {queue'' flags'' j'' : List ℕ} {gain'' : Time} {h'' : ℕ} {head'' : Place} {count'' : ℕ} → Stepped most (f (track_of r' j' h')) queue' head' count' j' h' r'' ps'' queue'' flags'' j'' gain'' h'' head'' count''
-      → Stepped most (f (track_of r j held)) queue head count j held r'' ps'' queue'' flags'' j'' gain'' h'' head'' count''
+  pub stepped_after : (f : Track → Found) (c : Work) {gain'' : Time} → Steps most (f (track_in b.track.now)) b c gain'' → Steps most (f (track_in a.track.now)) a c gain''
   unfolding nothing push_all
-  stepped_after f u =
+  stepped_after f c u =
       let e = none_track in
       record {
         gain_is = u.gain_is ∙ ap (λ (t : Track). (f t).gain) e;
@@ -118,7 +112,7 @@ module _ (r : Round) {most : ℕ} {queue : List ℕ} {head : Place} {count : ℕ
       }
 
 -- ---- the continuations of the first level
-module _ (p : Plan) (t1 t2 : Stop) (t : Track) where
+module _ (p : PlanOf) (t1 t2 : Stop) (t : Track) where
   -- what some of them lead to
   unfoldable pub side_from : List Trial → Found
   side_from xs = found_of t1 t2 t (try_each p t1 t2 (begin t t1 t2) (record { gain = 0; step = begin t t1 t2 }) (deepen p t1 24) xs)
@@ -142,130 +136,115 @@ module _ (p : Plan) (t1 t2 : Stop) (t : Track) where
       {x = try_each p t1 t2 (begin t t1 t2) (record { gain = 0; step = begin t t1 t2 }) (deepen p t1 24) xs} {y = λ g. led p t1 t2 t x} (λ z. absurd (omega arith)) (λ g z. refl))
 
 -- the first level has breadth 3
-pub side_all : (matrix : List Time) (k : ℕ) (near : List Stop) (ka : ℕ) (alpha : List Stop) (t1 t2 : Stop) (fwd : Bool) (r : Round) (j : List ℕ) (held : ℕ) (g : Time) (ps : Picks) → t2 ≡ ahead fwd r t1 → g ≡ leg_in (length r) matrix t1 t2
-    → Firsts (length r) g (best 3 [] (conts_in (length r) matrix k near r [] (leg t1 t2 ∷ []) t1 t2 g)) ps
-    → side_from (plan_of (length r) matrix k near ka alpha) t1 t2 (track_of r j held) (shown_from 0 ps) ≡ lk_side (plan_of (length r) matrix k near ka alpha) t1 fwd (track_of r j held)
+pub side_all : (p : Plan) (ka : ℕ) (alpha : List Stop) (t1 t2 : Stop) (fwd : Bool) (a : Kept) (r : Shown) {g : Time} {ps : Picks} → r.stops.now ≡ a.stops.now → t2 ≡ ahead fwd r.stops.now t1 → g ≡ leg_in p.matrix.n p.matrix.times.now t1 t2
+    → Firsts p.matrix.n g (best 3 [] (conts_on p r [] (leg t1 t2 ∷ []) t1 t2 g)) ps
+    → side_from (plan_with p ka alpha) t1 t2 (track_in a) (shown_from 0 ps) ≡ lk_side (plan_with p ka alpha) t1 fwd (track_in a)
 unfolding side_from lk_side deepen breadth found_of track_of conts_in conts cont_of may_flip step_in near_plan leg_of near_of begin
-side_all matrix k near ka alpha t1 t2 fwd r j held g ps e2 eg f =
-    ap (side_from (plan_of (length r) matrix k near ka alpha) t1 t2 (track_of r j held)) (f.is ∙ ap (λ (d : Time). best 3 [] (conts_in (length r) matrix k near r [] (leg t1 t2 ∷ []) t1 t2 d)) eg)
-    ∙ ap (λ (v : Stop). side_from (plan_of (length r) matrix k near ka alpha) t1 v (track_of r j held) (best 3 [] (conts_in (length r) matrix k near r [] (leg t1 v ∷ []) t1 v (leg_in (length r) matrix t1 v)))) e2
+side_all p ka alpha t1 t2 fwd a r {g} {ps} er e2 eg f =
+    let d : Stop → Stop → Time = leg_in p.matrix.n p.matrix.times.now in
+    let firsts : Round → Stop → Time → List Trial = λ v w x. best 3 [] (conts_in p.matrix.n p.matrix.times.now p.near.count p.near.entries.now v [] (leg t1 w ∷ []) t1 w x) in
+    ap (side_from (plan_with p ka alpha) t1 t2 (track_in a)) (f.is ∙ ap (firsts r.stops.now t2) eg ∙ ap (λ (v : Round). firsts v t2 (d t1 t2)) er)
+    ∙ ap (λ (v : Stop). side_from (plan_with p ka alpha) t1 v (track_in a) (firsts a.stops.now v (d t1 v))) (e2 ∙ ap (λ (v : Round). ahead fwd v t1) er)
 
 -- ---- before the i-th of them: nothing is found yet, and those that are left lead to what the side finds
-pub record Trying (matrix : List Time) (k : ℕ) (near : List Stop) (fwd : Bool) (t1 t2 : Stop) (round₀ : Round) (queue₀ : List ℕ) (head₀ : Place) (count₀ : ℕ) (j₀ : List ℕ) (held : ℕ) (ps : Picks)
-    (round : Round) (places : List Place) (queue flags j : List ℕ) (h : ℕ) (head : Place) (count i : ℕ) (p : Pick) : Type 0 where
-  pub within : i ≤ 3
-  pub is_at : IsAt ps i p
-  pub yet : Stepped 25 (nothing (track_of round₀ j₀ held)) queue₀ head₀ count₀ j₀ held round places queue flags j 0 h head count
-  pub leads : (ka : ℕ) (alpha : List Stop) → side_from (plan_of (length round₀) matrix k near ka alpha) t1 t2 (track_of round₀ j₀ held) (shown_from i ps) ≡ lk_side (plan_of (length round₀) matrix k near ka alpha) t1 fwd (track_of round₀ j₀ held)
+pub record Trying (p : Plan) (fwd : Bool) (t1 t2 : Stop) (a : Work) (ps : Picks) (b : Work) (i : ℕ) : Type 0 where
+  pub yet : Steps 25 (nothing (track_in a.track.now)) a b 0
+  pub leads : (ka : ℕ) (alpha : List Stop) → side_from (plan_with p ka alpha) t1 t2 (track_in a.track.now) (shown_from i ps) ≡ lk_side (plan_with p ka alpha) t1 fwd (track_in a.track.now)
 
--- what one of them finds, over any track
-unfoldable pub finds_at : List Time → ℕ → List Stop → ℕ → List Stop → Stop → Stop → Trial → Track → Found
-finds_at matrix k near ka alpha t1 t2 x t = found_of t1 t2 t (led (plan_of (length t.round) matrix k near ka alpha) t1 t2 t x)
-
-module _ {matrix : List Time} {k : ℕ} {near : List Stop} {fwd : Bool} {t1 t2 : Stop} {round₀ : Round} {queue₀ : List ℕ} {head₀ : Place} {count₀ : ℕ} {j₀ : List ℕ} {held : ℕ} {ps : Picks}
-    {round : Round} {places : List Place} {queue flags j : List ℕ} {h : ℕ} {head : Place} {count i : ℕ} {p : Pick} (w : Trying matrix k near fwd t1 t2 round₀ queue₀ head₀ count₀ j₀ held ps round places queue flags j h head count i p) where
-  -- fewer are left
-  pub try_less : 0 < p.partial → i < 3
-  try_less s = less_or i 3 (i < 3) (λ q. q) (λ q. let e = w.is_at.last q in absurd (omega arith))
-
-  head_of : 0 < p.partial → shown_from i ps ≡ trial_in p ∷ shown_from (i + 1) ps
-  unfolding trial_in cont_is
-  head_of s = w.is_at.is ∙ shown_some (trial_in p) (shown_from (i + 1) ps) s
-
+module _ {p : Plan} {fwd : Bool} {t1 t2 : Stop} {a : Work} {ps : Picks} {b : Work} {i : ℕ} (w : Trying p fwd t1 t2 a ps b i) where
   -- none is left
-  pub try_end : p.partial ≤ 0 → (ka : ℕ) (alpha : List Stop)
-      → Stepped 25 (lk_side (plan_of (length round₀) matrix k near ka alpha) t1 fwd (track_of round₀ j₀ held)) queue₀ head₀ count₀ j₀ held round places queue flags j 0 h head count
-  unfolding trial_in cont_is
-  try_end z ka alpha =
-      let pl : Plan = plan_of (length round₀) matrix k near ka alpha in
-      let t : Track = track_of round₀ j₀ held in
-      let e : lk_side pl t1 fwd t ≡ nothing t = sym (w.leads ka alpha) ∙ ap (side_from pl t1 t2 t) (w.is_at.is ∙ shown_none (trial_in p) (shown_from (i + 1) ps) z) ∙ side_none pl t1 t2 t in
-      subst (λ (f : Found). Stepped 25 f queue₀ head₀ count₀ j₀ held round places queue flags j 0 h head count) (sym e) w.yet
+  try_none : shown_from i ps ≡ [] → (ka : ℕ) (alpha : List Stop) → Steps 25 (lk_side (plan_with p ka alpha) t1 fwd (track_in a.track.now)) a b 0
+  try_none z ka alpha =
+      let q : PlanOf = plan_with p ka alpha in
+      let t : Track = track_in a.track.now in
+      let e : lk_side q t1 fwd t ≡ nothing t = sym (w.leads ka alpha) ∙ ap (side_from q t1 t2 t) z ∙ side_none q t1 t2 t in
+      subst (λ (f : Found). Steps 25 f a b 0) (sym e) w.yet
 
-  module _ (s : 0 < p.partial) {round' : Round} {places' : List Place} {queue' flags' j' : List ℕ} {gain : Time} {h' : ℕ} {head' : Place} {count' : ℕ}
-      (d : (ka : ℕ) (alpha : List Stop) → Stepped 25 (found_of t1 t2 (track_of round j h) (led (plan_of (length round) matrix k near ka alpha) t1 t2 (track_of round j h) (trial_in p))) queue head count j h round' places' queue' flags' j' gain h' head' count') where
-    -- from the start on
-    whole : (ka : ℕ) (alpha : List Stop)
-        → Stepped 25 (found_of t1 t2 (track_of round₀ j₀ held) (led (plan_of (length round₀) matrix k near ka alpha) t1 t2 (track_of round₀ j₀ held) (trial_in p))) queue₀ head₀ count₀ j₀ held round' places' queue' flags' j' gain h' head' count'
-    unfolding finds_at track_of
-    whole ka alpha = stepped_after round₀ w.yet (finds_at matrix k near ka alpha t1 t2 (trial_in p)) (d ka alpha)
+  pub try_over : 3 ≤ i → (ka : ℕ) (alpha : List Stop) → Steps 25 (lk_side (plan_with p ka alpha) t1 fwd (track_in a.track.now)) a b 0
+  try_over h = try_none (shown_last i ps h)
 
-    led_gain : (ka : ℕ) (alpha : List Stop) → (led (plan_of (length round₀) matrix k near ka alpha) t1 t2 (track_of round₀ j₀ held) (trial_in p)).gain ≡ gain
-    led_gain ka alpha = sym (found_gain t1 t2 (track_of round₀ j₀ held) (led (plan_of (length round₀) matrix k near ka alpha) t1 t2 (track_of round₀ j₀ held) (trial_in p))) ∙ sym (whole ka alpha).gain_is
+  module _ {c : Pick} (is_at : IsAt ps i c) where
+    pub try_end : c.partial ≡ 0 → (ka : ℕ) (alpha : List Stop) → Steps 25 (lk_side (plan_with p ka alpha) t1 fwd (track_in a.track.now)) a b 0
+    unfolding trial_in cont_is
+    try_end z = try_none (is_at.is ∙ shown_none (trial_in c) (shown_from (i + 1) ps) (omega (arith, z)))
 
-    -- it has led to a gain
-    pub try_hit : 0 < gain → (ka : ℕ) (alpha : List Stop)
-        → Stepped 25 (lk_side (plan_of (length round₀) matrix k near ka alpha) t1 fwd (track_of round₀ j₀ held)) queue₀ head₀ count₀ j₀ held round' places' queue' flags' j' gain h' head' count'
-    try_hit z ka alpha =
-        let pl : Plan = plan_of (length round₀) matrix k near ka alpha in
-        let t : Track = track_of round₀ j₀ held in
-        let q : (led pl t1 t2 t (trial_in p)).gain ≡ gain = led_gain ka alpha in
-        let e : lk_side pl t1 fwd t ≡ found_of t1 t2 t (led pl t1 t2 t (trial_in p)) = sym (w.leads ka alpha) ∙ ap (side_from pl t1 t2 t) (head_of s) ∙ side_hit pl t1 t2 t (trial_in p) (shown_from (i + 1) ps) (omega arith) in
-        subst (λ (f : Found). Stepped 25 f queue₀ head₀ count₀ j₀ held round' places' queue' flags' j' gain h' head' count') (sym e) (whole ka alpha)
+    module _ (s : 0 < c.partial) (b' : Work) {gain : Time}
+        (d : (ka : ℕ) (alpha : List Stop) → Steps 25 (found_of t1 t2 (track_in b.track.now) (led (plan_with p ka alpha) t1 t2 (track_in b.track.now) (trial_in c))) b b' gain) where
+      head_of : shown_from i ps ≡ trial_in c ∷ shown_from (i + 1) ps
+      unfolding trial_in cont_is
+      head_of = is_at.is ∙ shown_some (trial_in c) (shown_from (i + 1) ps) s
 
-    -- it has not: the next one
-    pub try_miss : gain ≤ 0 → {p' : Pick} → IsAt ps (i + 1) p' → Trying matrix k near fwd t1 t2 round₀ queue₀ head₀ count₀ j₀ held ps round' places' queue' flags' j' h' head' count' (i + 1) p'
-    try_miss z at' =
-        let z' : gain ≡ 0 = omega arith in
-        let e0 = found_none t1 t2 (track_of round₀ j₀ held) (led (plan_of (length round₀) matrix k near 0 []) t1 t2 (track_of round₀ j₀ held) (trial_in p)) (led_gain 0 [] ∙ z') in
-        record {
-          within = omega (arith, try_less s);
-          is_at = at';
-          yet = subst (λ (g : Time). Stepped 25 (nothing (track_of round₀ j₀ held)) queue₀ head₀ count₀ j₀ held round' places' queue' flags' j' g h' head' count') z'
-              (subst (λ (f : Found). Stepped 25 f queue₀ head₀ count₀ j₀ held round' places' queue' flags' j' gain h' head' count') e0 (whole 0 []));
-          leads = λ ka alpha.
-              let pl : Plan = plan_of (length round₀) matrix k near ka alpha in
-              let t : Track = track_of round₀ j₀ held in
-              sym (ap (side_from pl t1 t2 t) (head_of s) ∙ side_miss pl t1 t2 t (trial_in p) (shown_from (i + 1) ps) (led_gain ka alpha ∙ z')) ∙ w.leads ka alpha;
-        }
+      -- from the start on
+      whole : (ka : ℕ) (alpha : List Stop) → Steps 25 (found_of t1 t2 (track_in a.track.now) (led (plan_with p ka alpha) t1 t2 (track_in a.track.now) (trial_in c))) a b' gain
+      whole ka alpha = stepped_after a b w.yet (λ t. found_of t1 t2 t (led (plan_with p ka alpha) t1 t2 t (trial_in c))) b' (d ka alpha)
+
+      led_gain : (ka : ℕ) (alpha : List Stop) → (led (plan_with p ka alpha) t1 t2 (track_in a.track.now) (trial_in c)).gain ≡ gain
+      led_gain ka alpha = sym (found_gain t1 t2 (track_in a.track.now) (led (plan_with p ka alpha) t1 t2 (track_in a.track.now) (trial_in c))) ∙ sym (whole ka alpha).gain_is
+
+      -- it has led to a gain
+      pub try_hit : 0 < gain → (ka : ℕ) (alpha : List Stop) → Steps 25 (lk_side (plan_with p ka alpha) t1 fwd (track_in a.track.now)) a b' gain
+      try_hit z ka alpha =
+          let q : PlanOf = plan_with p ka alpha in
+          let t : Track = track_in a.track.now in
+          let y : (led q t1 t2 t (trial_in c)).gain ≡ gain = led_gain ka alpha in
+          let e : lk_side q t1 fwd t ≡ found_of t1 t2 t (led q t1 t2 t (trial_in c)) = sym (w.leads ka alpha) ∙ ap (side_from q t1 t2 t) head_of ∙ side_hit q t1 t2 t (trial_in c) (shown_from (i + 1) ps) (omega arith) in
+          subst (λ (f : Found). Steps 25 f a b' gain) (sym e) (whole ka alpha)
+
+      -- it has not: the next one
+      pub try_miss : gain ≤ 0 → Trying p fwd t1 t2 a ps b' (i + 1)
+      try_miss z =
+          let z' : gain ≡ 0 = omega arith in
+          let t : Track = track_in a.track.now in
+          let e0 = found_none t1 t2 t (led (plan_with p 0 []) t1 t2 t (trial_in c)) (led_gain 0 [] ∙ z') in
+          record {
+            yet = subst (λ (g : Time). Steps 25 (nothing t) a b' g) z' (subst (λ (f : Found). Steps 25 f a b' gain) e0 (whole 0 []));
+            leads = λ ka alpha.
+                let q : PlanOf = plan_with p ka alpha in
+                sym (ap (side_from q t1 t2 t) head_of ∙ side_miss q t1 t2 t (trial_in c) (shown_from (i + 1) ps) (led_gain ka alpha ∙ z')) ∙ w.leads ka alpha;
+          }
 
 -- ---- both sides
-unfoldable pub side_at : List Time → ℕ → List Stop → ℕ → List Stop → Stop → Track → Found
-side_at matrix k near ka alpha t1 t = lk_side (plan_of (length t.round) matrix k near ka alpha) t1 false t
+module _ (p : PlanOf) (t1 : Stop) (t : Track) where
+  from_few : length t.round < 5 → lk_from p t1 t ≡ nothing t
+  unfolding lk_from
+  from_few h = rw (lt-ltb (length t.round) 5 h)
 
-module _ (matrix : List Time) (k : ℕ) (near : List Stop) (ka : ℕ) (alpha : List Stop) (t1 : Stop) (r : Round) (j : List ℕ) (held : ℕ) where
-  pub from_few : length r < 5 → lk_from (plan_of (length r) matrix k near ka alpha) t1 (track_of r j held) ≡ nothing (track_of r j held)
-  unfolding lk_from track_of
-  from_few h = rw (lt-ltb (length r) 5 h)
+  both : 5 ≤ length t.round → lk_from p t1 t ≡ or_else (lk_side p t1 true t) (lk_side p t1 false)
+  unfolding lk_from
+  both h = rw (le-ltb (length t.round) 5 h)
 
-  both : 5 ≤ length r → lk_from (plan_of (length r) matrix k near ka alpha) t1 (track_of r j held)
-      ≡ or_else (lk_side (plan_of (length r) matrix k near ka alpha) t1 true (track_of r j held)) (lk_side (plan_of (length r) matrix k near ka alpha) t1 false)
-  unfolding lk_from track_of
-  both h = rw (le-ltb (length r) 5 h)
-
-  side_nothing : (fwd : Bool) → (lk_side (plan_of (length r) matrix k near ka alpha) t1 fwd (track_of r j held)).gain ≡ 0 → lk_side (plan_of (length r) matrix k near ka alpha) t1 fwd (track_of r j held) ≡ nothing (track_of r j held)
+  side_nothing : (fwd : Bool) → (lk_side p t1 fwd t).gain ≡ 0 → lk_side p t1 fwd t ≡ nothing t
   unfolding lk_side found_of
   side_nothing fwd e =
-      let t : Track = track_of r j held in
       let t2 : Stop = ahead fwd t.round t1 in
-      let p : Plan = plan_of (length r) matrix k near ka alpha in
       let b : Best = deepen p t1 25 (begin t t1 t2) t2 (leg_of p t1 t2) (record { gain = 0; step = begin t t1 t2 }) in
       found_none t1 t2 t b (sym (found_gain t1 t2 t b) ∙ e)
 
-  else_first : (f : Found) (other : Track → Found) → 0 < f.gain → or_else f other ≡ f
-  unfolding or_else
-  else_first f other h = by_gain (λ (z : Found). z ≡ f) f.gain {x = other f.track} {y = λ g. f} (λ e. absurd (omega arith)) (λ g e. refl)
+else_first : (f : Found) (other : Track → Found) → 0 < f.gain → or_else f other ≡ f
+unfolding or_else
+else_first f other h = by_gain (λ (z : Found). z ≡ f) f.gain {x = other f.track} {y = λ g. f} (λ e. absurd (omega arith)) (λ g e. refl)
 
-  module _ (long : 5 ≤ length r) {queue : List ℕ} {head : Place} {count : ℕ} {r' : Round} {ps' : List Place} {queue' flags' j' : List ℕ} {gain' : Time} {h' : ℕ} {head' : Place} {count' : ℕ}
-      (s : Stepped 25 (lk_side (plan_of (length r) matrix k near ka alpha) t1 true (track_of r j held)) queue head count j held r' ps' queue' flags' j' gain' h' head' count') where
-    -- the first side gains
-    pub from_first : 0 < gain' → Stepped 25 (lk_from (plan_of (length r) matrix k near ka alpha) t1 (track_of r j held)) queue head count j held r' ps' queue' flags' j' gain' h' head' count'
-    from_first h =
-        subst (λ (f : Found). Stepped 25 f queue head count j held r' ps' queue' flags' j' gain' h' head' count')
-        (sym (both long ∙ else_first (lk_side (plan_of (length r) matrix k near ka alpha) t1 true (track_of r j held)) (lk_side (plan_of (length r) matrix k near ka alpha) t1 false) (omega (arith, s.gain_is)))) s
+-- too few stops: nothing is done
+pub from_none : (p : PlanOf) (t1 : Stop) (a : Work) → length a.track.now.stops.now < 5 → Steps 25 (lk_from p t1 (track_in a.track.now)) a a 0
+unfolding track_of
+from_none p t1 a h = stepped_none (from_few p t1 (track_in a.track.now) h) refl a.track.now.tied a.track.now.good a.queue.now.in_line
 
-    -- it finds nothing, and all is as it was
-    pub first_none : gain' ≤ 0 → Stepped 25 (nothing (track_of r j held)) queue head count j held r' ps' queue' flags' j' gain' h' head' count'
-    first_none h =
-        subst (λ (f : Found). Stepped 25 f queue head count j held r' ps' queue' flags' j' gain' h' head' count') (side_nothing true (let e = s.gain_is in omega arith)) s
+module _ (p : PlanOf) (t1 : Stop) (a b : Work) (long : 5 ≤ length a.track.now.stops.now) {gain : Time} (s : Steps 25 (lk_side p t1 true (track_in a.track.now)) a b gain) where
+  -- the first side gains
+  pub from_first : 0 < gain → Steps 25 (lk_from p t1 (track_in a.track.now)) a b gain
+  unfolding track_of
+  from_first h =
+      let t : Track = track_in a.track.now in
+      subst (λ (f : Found). Steps 25 f a b gain) (sym (both p t1 t long ∙ else_first (lk_side p t1 true t) (lk_side p t1 false) (omega (arith, s.gain_is)))) s
 
-    -- then the other
-    pub from_second : gain' ≤ 0 → {r'' : Round} {ps'' : List Place} {queue'' flags'' j'' : List ℕ} {gain'' : Time} {h'' : ℕ} {head'' : Place} {count'' : ℕ}
-        → Stepped 25 (lk_side (plan_of (length r') matrix k near ka alpha) t1 false (track_of r' j' h')) queue' head' count' j' h' r'' ps'' queue'' flags'' j'' gain'' h'' head'' count''
-        → Stepped 25 (lk_from (plan_of (length r) matrix k near ka alpha) t1 (track_of r j held)) queue head count j held r'' ps'' queue'' flags'' j'' gain'' h'' head'' count''
-    unfolding side_at track_of or_else nothing
-    from_second h {r''} {ps''} {queue''} {flags''} {j''} {gain''} {h''} {head''} {count''} u =
-        let e : lk_from (plan_of (length r) matrix k near ka alpha) t1 (track_of r j held) ≡ lk_side (plan_of (length r) matrix k near ka alpha) t1 false (track_of r j held)
-        = both long ∙ ap (λ (f : Found). or_else f (lk_side (plan_of (length r) matrix k near ka alpha) t1 false)) (side_nothing true (let e = s.gain_is in omega arith)) in
-        subst (λ (f : Found). Stepped 25 f queue head count j held r'' ps'' queue'' flags'' j'' gain'' h'' head'' count'') (sym e)
-        (stepped_after r (first_none h) (side_at matrix k near ka alpha t1) u)
+  -- it finds nothing, and all is as it was
+  pub first_none : gain ≤ 0 → Steps 25 (nothing (track_in a.track.now)) a b gain
+  first_none h = subst (λ (f : Found). Steps 25 f a b gain) (side_nothing p t1 (track_in a.track.now) true (let e = s.gain_is in omega arith)) s
+
+  -- then the other
+  pub from_second : gain ≤ 0 → (c : Work) {gain'' : Time} → Steps 25 (lk_side p t1 false (track_in b.track.now)) b c gain'' → Steps 25 (lk_from p t1 (track_in a.track.now)) a c gain''
+  unfolding track_of or_else nothing
+  from_second h c {gain''} u =
+      let t : Track = track_in a.track.now in
+      let e : lk_from p t1 t ≡ lk_side p t1 false t = both p t1 t long ∙ ap (λ (f : Found). or_else f (lk_side p t1 false)) (side_nothing p t1 t true (let e = s.gain_is in omega arith)) in
+      subst (λ (f : Found). Steps 25 f a c gain'') (sym e) (stepped_after a b (first_none h) (lk_side p t1 false) c u)

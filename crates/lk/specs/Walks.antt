@@ -8,9 +8,12 @@ use Rattle.rules.specs.Step.{Step, begin}
 use Rattle.rules.specs.Lk.{Best, better, flipped, deepen}
 use Rattle.rules.specs.SharedWords.{Tied}
 use Rattle.journal.specs.Journalled.{Grew}
+use Rattle.journal.specs.Tracks.{track_in}
+use Rattle.journal.specs.declared.track.Track.{Track as Kept}
 use Rattle.lk_state.specs.Stacks.{legs_in, stops_in, Stepping}
 use Rattle.lk_state.specs.declared.LkState.{LkState}
 use Rattle.lk_scans.specs.Picked.{shown, cont_is, Fine}
+use Rattle.lk.specs.declared.Walk.{Walk}
 
 -- what the continuation x of the first level leads to
 unfoldable pub led : Plan → Stop → Stop → Track → Trial → Best
@@ -57,3 +60,7 @@ pub record Walked (goal : Best) (t : Track) (journal : List ℕ) (held : ℕ) (r
   pub most : held' ≤ held + 25
   pub few : len ≤ 25
   pub below : Stepping steps len (length round)
+
+-- a was left as b by a walk w
+abbrev pub Walks : Best → Kept → Kept → Walk → Type 0
+Walks goal a b w = Walked goal (track_in a) a.journal.now a.held b.stops.now b.places.now b.journal.now b.held w.mark.gain w.steps w.mark.len w.mark.held

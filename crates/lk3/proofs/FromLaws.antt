@@ -1,5 +1,5 @@
 -- The step from t1: its first level, and the two sides of t1.
-use Prim.Native.Nat.{ℕ, ◌<◌}
+use Prim.Native.Nat.{ℕ, ◌+◌, ◌*◌, ◌≤◌, ◌<◌}
 use mathlib.Core.Path.{◌≡◌, sym, ap, ◌∙◌}
 use mathlib.Core.Bool.{Bool}
 use mathlib.Core.List.{List, [], ◌∷◌}
@@ -14,14 +14,14 @@ use Rattle.rules.specs.Improve.{Found, nothing, touching}
 use Rattle.rules.specs.Step.{begin}
 use Rattle.rules.specs.Lk3.{level3, lk3_side}
 use Rattle.laws.proofs.JournalLaws.{entries_of_length}
-use Rattle.journal.specs.Journalled.{Journalled}
+use Rattle.journal.specs.Tracks.{track_in}
 use Rattle.journal.proofs.GrewLaws.{grew_grew}
-use Rattle.improve.specs.Steps.{Stepped}
+use Rattle.work.specs.declared.work.Work.{Work}
+use Rattle.improve.specs.Steps.{Stepped, Steps}
 use Rattle.improve.proofs.StepLaws.{pushed}
 use Rattle.lk_state.specs.declared.LkState.{LkState}
 use Rattle.lk_state.specs.States.{step_of, Begun}
-use Rattle.lk3.specs.Levels.{Stacked, Step3, found_at}
-use Rattle.lk3.proofs.NextLaws.{step_again}
+use Rattle.lk3.specs.Levels.{Stacked, found_at}
 
 -- ---- the first level
 pub stacked_begun : {t1 t2 : Stop} {st : LkState} (n : ℕ) → t2 < n → Begun t1 t2 st → Stacked n 0 st
@@ -53,15 +53,9 @@ held_same r {j = j} {held = held} {r₁ = r₁} {j₁ = j₁} {h₁ = h₁} e s 
     let same : track_of r₁ j₁ h₁ ≡ track_of r j held = s.made.is ∙ ap (λ (z : Found). z.track) e in
     sym (entries_of_length j₁ h₁) ∙ ap (λ (z : Track). length z.journal) same ∙ entries_of_length j held
 
-pub again : {matrix : List Time} {near : List Stop} {k : ℕ} {alpha : List Stop} {ka : ℕ} {r r₁ : Round} {ps ps₁ : List Place} {scratch scratch₁ queue queue₁ flags flags₁ : List ℕ} {head head₁ : Place} {count count₁ : ℕ} {t1 : Stop} {f : Found} {j j₁ : List ℕ} {held h₁ : ℕ} {g₁ : Time}
-    → Step3 matrix near k alpha ka r ps scratch queue flags head count t1 → Journalled (length r) j held 100 → f ≡ nothing (track_of r j held) → Stepped 100 f queue head count j held r₁ ps₁ queue₁ flags₁ j₁ g₁ h₁ head₁ count₁
-    → length r₁ ≡ length r → length scratch₁ ≡ length scratch → length queue₁ ≡ length queue → length j₁ ≡ length j
-    → Step3 matrix near k alpha ka r₁ ps₁ scratch₁ queue₁ flags₁ head₁ count₁ t1 × Journalled (length r₁) j₁ h₁ 100
-again {r = r} {scratch₁ = scratch₁} s v e u er es eq ej =
-    let b = step_again {scratch₁ = scratch₁} s u.made.tied er es in (
-      record { tied = b.tied; square = b.square; lists = b.lists; some = b.some; alphas = b.alphas; low1 = b.low1; spare = b.spare; queued = eq ∙ b.queued; line = u.waits.line },
-      record { good = u.made.good; room = omega (arith, held_same r e u, v.room) },
-    )
+pub room_again : (w w₁ : Work) {f : Found} {g₁ : Time} → f ≡ nothing (track_in w.track.now) → Steps 100 f w w₁ g₁ → length w₁.track.now.journal.now ≡ length w.track.now.journal.now
+    → 5 * (w.track.now.held + 100) ≤ length w.track.now.journal.now → 5 * (w₁.track.now.held + 100) ≤ length w₁.track.now.journal.now
+room_again w w₁ e s same h = omega (arith, h, same, held_same w.track.now.stops.now e s)
 
 pub stepped_after : (r : Round) {f₁ f₂ f : Found} {queue queue₁ queue₂ flags₁ flags₂ : List ℕ} {head head₁ head₂ : Place} {count count₁ count₂ : ℕ} {j j₁ j₂ : List ℕ} {held h₁ h₂ : ℕ} {r₁ r₂ : Round} {ps₁ ps₂ : List Place} {g₁ g₂ : Time}
     → f₁ ≡ nothing (track_of r j held) → Stepped 100 f₁ queue head count j held r₁ ps₁ queue₁ flags₁ j₁ g₁ h₁ head₁ count₁

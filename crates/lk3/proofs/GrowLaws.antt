@@ -7,11 +7,11 @@ use lib.ListN.{length, set, length-set}
 use Rattle.rules.specs.Words.{Stop}
 use Rattle.rules.specs.Ring.{Leg, leg}
 use Rattle.rules.specs.Step.{going}
-use Rattle.moves.specs.Moves.{Six}
 use Rattle.lk_state.specs.declared.LkState.{LkState}
 use Rattle.lk_state.specs.Stacks.{legs_in, stops_in, Stepping, LegWord}
 use Rattle.lk_state.specs.States.{step_of, Roomy}
 use Rattle.lk_state.proofs.StackLaws.{leg_push, stops_push, stepping_push}
+use Rattle.seeks.specs.Seeks.{Lasts}
 use Rattle.lk3.specs.Levels.{Grown}
 
 -- two words more
@@ -38,7 +38,7 @@ stepping_two ws i n t3 t4 t5 t6 h h4 h6 l3 l4 l5 l6 s =
     rw q (stepping_push (set ws i w) (i + 1) n t5 t6 long h6 l5 l6 (stepping_push ws i n t3 t4 (omega arith) h4 l3 l4 s))
 
 module _ (st : LkState) (t2 t3 t4 t5 t6 : Stop) (room : Roomy st) (few_steps : st.steps_len ≤ 98) (few_added : st.added_len ≤ 96) (few_removed : st.removed_len ≤ 97)
-    (low : Six 4096 t2 t2 t3 t4 t5 t6) (w23 w45 w34 w56 : ℕ) (l23 : LegWord t2 t3 w23) (l45 : LegWord t4 t5 w45) (l34 : LegWord t3 t4 w34) (l56 : LegWord t5 t6 w56) where
+    (low : Lasts 4096 t3 t4 t5 t6) (w23 w45 w34 w56 : ℕ) (l23 : LegWord t2 t3 w23) (l45 : LegWord t4 t5 w45) (l34 : LegWord t3 t4 w34) (l56 : LegWord t5 t6 w56) where
   -- the state as the code leaves it
   unfoldable pub after : LkState
   after = record {

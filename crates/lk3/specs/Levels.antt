@@ -1,15 +1,14 @@
 -- What the levels of LK3 ask and promise. Assumes nothing.
 use Rattle.std.specs.Prelude.{ℕ, ◌+◌, ◌-◌, ◌*◌, ◌≤◌, ◌<◌, ◌≡◌, List, [], ◌∷◌, ◌++◌, length}
-use Rattle.rules.specs.Words.{Stop, Place, Time, Round}
+use Rattle.rules.specs.Words.{Stop, Time}
 use Rattle.rules.specs.Ring.{leg}
-use Rattle.rules.specs.Journal.{Track}
-use Rattle.rules.specs.Plan.{Plan}
+use Rattle.rules.specs.Journal.{Track as TrackOf}
+use Rattle.rules.specs.Plan.{Plan as PlanOf}
 use Rattle.rules.specs.Improve.{Found, ends_of, touching}
 use Rattle.rules.specs.Step.{going}
 use Rattle.rules.specs.Lk3.{level3}
-use Rattle.rules.specs.SharedWords.{Tied, Square, Listed}
-use Rattle.queue.specs.Lines.{InLine}
-use Rattle.journal.specs.Journalled.{Journalled}
+use Rattle.legs.specs.declared.plan.Plan.{Plan}
+use Rattle.work.specs.declared.work.Work.{Work}
 use Rattle.improve.specs.Steps.{trial_of}
 use Rattle.lk_state.specs.declared.LkState.{LkState}
 use Rattle.lk_state.specs.Stacks.{Stepping, stops_in}
@@ -32,30 +31,24 @@ pub record Grown (st : LkState) (t2 t3 t4 t5 t6 : Stop) (st' : LkState) : Type 0
   pub removed_more : st'.removed_len ≡ st.removed_len + 2
   pub first_same : st'.first ≡ st.first
   pub stepping : (n : ℕ) → t3 < n → t4 < n → t5 < n → t6 < n → Stepping st.steps st.steps_len n → Stepping st'.steps st'.steps_len n
-  pub is : (t t' : Track) → step_of st' t' ≡ going (step_of st t) t' (t3 ∷ t4 ∷ t5 ∷ t6 ∷ []) (leg t4 t5 ∷ leg t2 t3 ∷ []) (leg t5 t6 ∷ leg t3 t4 ∷ [])
+  pub is : (t t' : TrackOf) → step_of st' t' ≡ going (step_of st t) t' (t3 ∷ t4 ∷ t5 ∷ t6 ∷ []) (leg t4 t5 ∷ leg t2 t3 ∷ []) (leg t5 t6 ∷ leg t3 t4 ∷ [])
 
--- what a step from t1 is handed: the round, matrix and lists, scratch and queue
-pub record Step3 (matrix : List Time) (near : List Stop) (k : ℕ) (alpha : List Stop) (ka : ℕ) (round : Round) (places : List Place) (scratch queue flags : List ℕ) (head : Place) (count : ℕ) (t1 : Stop) : Type 0 where
-  pub tied : Tied round places
-  pub square : Square matrix (length round)
-  pub lists : Listed near k (length round)
-  pub some : 1 ≤ k
-  pub alphas : Listed alpha ka (length round)
-  pub low1 : t1 < length round
-  pub spare : length scratch ≡ length round
-  pub queued : length queue ≡ length round
-  pub line : InLine queue flags head count
+-- what a step from t1 is handed: a plan with near lists, and memory for as many stops
+pub record Step3 (p : Plan) (w : Work) (t1 : Stop) : Type 0 where
+  pub size : p.matrix.n ≡ length w.track.now.stops.now
+  pub some : 1 ≤ p.near.count
+  pub low1 : t1 < length w.track.now.stops.now
 
 -- and what a level of it is
-pub record Level3 (round : Round) (journal : List ℕ) (held : ℕ) (st : LkState) (t2 : Stop) (g : Time) (level : ℕ) : Type 0 where
+pub record Level3 (w : Work) (st : LkState) (t2 : Stop) (g : Time) (level : ℕ) : Type 0 where
   pub above : level < 50
-  pub journalled : Journalled (length round) journal held (2 * (50 - level))
-  pub stacks : Stacked (length round) level st
-  pub low2 : t2 < length round
+  pub room : 5 * (w.track.now.held + 2 * (50 - level)) ≤ length w.track.now.journal.now
+  pub stacks : Stacked (length w.track.now.stops.now) level st
+  pub low2 : t2 < length w.track.now.stops.now
   pub small : g ≤ 65535 * (2 * level + 1)
 
 -- what a level finds, with t1 and the first t2 queued first
-unfoldable pub found_at : Plan → Stop → LkState → Track → Stop → Time → ℕ → Found
+unfoldable pub found_at : PlanOf → Stop → LkState → TrackOf → Stop → Time → ℕ → Found
 found_at p t1 st t t2 g level = touching (t1 ∷ st.first ∷ []) (level3 p t1 (50 - level) (step_of st t) t2 g)
 
 -- the stops that a step queues that closes by a move: t1, the first t2, those of the moves before, its own

@@ -6,6 +6,8 @@ use Rattle.rules.specs.Moves.{two}
 use Rattle.rules.specs.Improve.{Trial}
 use Rattle.rules.specs.Step.{Step, insert}
 use Rattle.rules.specs.Lk.{conts}
+use Rattle.legs.specs.declared.plan.Plan.{Plan}
+use Rattle.ring.specs.declared.round.Round.{Round as RoundOf}
 use Rattle.improve.specs.Steps.{near_plan}
 use Rattle.lk_scans.specs.declared.Pick.{Pick}
 use Rattle.lk_scans.specs.declared.Picks.{Picks}
@@ -17,6 +19,10 @@ step_in r added removed = record { track = record { round = r; journal = [] }; s
 -- the continuations of a level, over what is lent
 unfoldable pub conts_in : ℕ → List Time → ℕ → List Stop → Round → List Leg → List Leg → Stop → Stop → Time → List Trial
 conts_in n matrix k near r added removed t1 t2 g = conts (near_plan n matrix k near) (eqb (succ r t1) t2) (step_in r added removed) t1 t2 g
+
+-- the same of a plan and a round that are lent
+abbrev pub conts_on : Plan → RoundOf → List Leg → List Leg → Stop → Stop → Time → List Trial
+conts_on p r added removed t1 t2 g = conts_in p.matrix.n p.matrix.times.now p.near.count p.near.entries.now r.stops.now added removed t1 t2 g
 
 -- a continuation as a trial
 unfoldable pub cont_is : Time → Stop → Stop → Trial
@@ -37,12 +43,6 @@ shown_from zero ps = shown (trial_in ps.a) (shown (trial_in ps.b) (shown (trial_
 shown_from (suc zero) ps = shown (trial_in ps.b) (shown (trial_in ps.c) [])
 shown_from (suc (suc zero)) ps = shown (trial_in ps.c) []
 shown_from (suc (suc (suc i))) ps = []
-
--- a continuation with these numbers
-pub record IsPick (partial' : Time) (t3' t4' : Stop) (partial : Time) (t3 t4 : Stop) : Type 0 where
-  pub partial_is : partial ≡ partial'
-  pub third_is : t3 ≡ t3'
-  pub fourth_is : t4 ≡ t4'
 
 -- stops of n, and a partial gain of one leg more than g at most
 pub record Fine (n : ℕ) (g partial : Time) (t3 t4 : Stop) : Type 0 where

@@ -6,16 +6,16 @@ ghost use Rattle.std.specs.Prelude.{◌≡◌, ◌||◌, List, [], ◌∷◌, �
 ghost use Rattle.rules.specs.Ring.{leg};
 ghost use Rattle.rules.specs.Step.{among, best};
 ghost use Rattle.rules.specs.Lk.{breadth};
-ghost use Rattle.scans.specs.Scans.{Ready};
 ghost use Rattle.lk_state.specs.Stacks.{legs_in};
-ghost use Rattle.lk_scans.specs.Picked.{conts_in, Picked, Firsts, Placed, IsPick, IsAt};
+ghost use Rattle.lk_scans.specs.Picked.{conts_on, Picked, Firsts, Placed, IsAt};
 
-use legs::{Stop, dist};
-use lk_state::{added_has, leg_word, removed_has};
-use moves::entries::{either, listed, same};
-use ring::stops::{ahead, behind, succ};
+use legs::Stop;
+use legs::plan::Plan;
+use lk_state::{LkState, has, leg_word};
+use moves::entries::either;
+use ring::round::Round;
 
-// A continuation: its partial gain, 0 for none, and its stops.
+// A continuation: its partial gain, 0 for none, and its stops. No Option: the scans compare with the best so far, and 0 is below each.
 #[derive(Clone, Copy)]
 pub struct Pick {
     pub partial: u32,
@@ -31,10 +31,18 @@ pub struct Picks {
     pub c: Pick,
 }
 
+// No continuation.
+const NONE: Pick = Pick {
+    partial: 0,
+    t3: Stop(0),
+    t4: Stop(0),
+};
+
 // The breadth of the first levels; 1 beyond.
 const BREADTH: [usize; 2] = [3, 1];
 
 // How many continuations a level tries.
+#[tactic(auto, using(crate::proofs::ShownLaws::breadth_in, laws::proofs::LoneLaws::breadth_one))]
 pub fn lk_breadth(level: usize) -> usize
     ensures { result ≡ breadth level }
 {
@@ -44,17 +52,8 @@ pub fn lk_breadth(level: usize) -> usize
     1
 }
 
-fn no_pick() -> Pick
-    ensures { IsPick 0 0 0 result.partial result.t3.0 result.t4.0 }
-{
-    Pick {
-        partial: 0,
-        t3: Stop(0),
-        t4: Stop(0),
-    }
-}
-
 // A continuation put where it belongs, behind the equal ones.
+#[tactic(auto, using(crate::proofs::ShownLaws::placed_1, crate::proofs::ShownLaws::placed_2, crate::proofs::ShownLaws::placed_3, crate::proofs::ShownLaws::placed_4))]
 fn place_pick(ps: Picks, p: Pick) -> Picks
     requires { 0 < p.partial }
     ensures { Placed ps p result }
@@ -75,6 +74,7 @@ fn place_pick(ps: Picks, p: Pick) -> Picks
 }
 
 // The i-th of the best three; none beyond the first level's breadth.
+#[tactic(auto, using(crate::proofs::ShownLaws::breadth_first, crate::proofs::ShownLaws::at_first, crate::proofs::ShownLaws::at_second, crate::proofs::ShownLaws::at_third, crate::proofs::ShownLaws::at_none))]
 pub fn pick_at(ps: Picks, i: usize) -> Pick
     ensures { IsAt ps i result }
 {
@@ -96,110 +96,69 @@ pub fn pick_at(ps: Picks, i: usize) -> Pick
 }
 
 // Whether the leg t2-t3 was removed or the leg t3-t4 added.
-fn barred_by<'a>(
-    added: &'a [u32; 98],
-    added_len: usize,
-    removed: &'a [u32; 99],
-    removed_len: usize,
-    t2: Stop,
-    t3: Stop,
-    t4: Stop,
-) -> bool
-    requires added_len_bound { added_len ≤ 98 }
-    requires removed_len_bound { removed_len ≤ 99 }
+fn barred_by(st: &LkState, t2: Stop, t3: Stop, t4: Stop) -> bool
+    requires added_low { st.now.added_len ≤ 98 }
+    requires removed_low { st.now.removed_len ≤ 99 }
     requires t2_bound { t2.0 < 4096 }
     requires t3_bound { t3.0 < 4096 }
     requires t4_bound { t4.0 < 4096 }
-    ensures { result ≡ among (legs_in removed.now removed_len) (leg t2.0 t3.0) || among (legs_in added.now added_len) (leg t3.0 t4.0) }
+    ensures { result ≡ among (legs_in st.now.removed st.now.removed_len) (leg t2.0 t3.0) || among (legs_in st.now.added st.now.added_len) (leg t3.0 t4.0) }
 {
     let come = leg_word(t2, t3);
-    if removed_has(removed, removed_len, come) {
+    if has(&st.removed, st.removed_len, come) {
         return true;
     }
     let gone = leg_word(t3, t4);
-    added_has(added, added_len, gone)
+    has(&st.added, st.added_len, gone)
 }
 
 // The best three continuations of the first level, where no leg is barred but t1-t2.
-pub fn lk_first(
-    matrix: &[u16],
-    near: &[u32],
-    k: usize,
-    round: &[u32],
-    places: &[u32],
-    t1: Stop,
-    t2: Stop,
-    g: u32,
-) -> Picks
-    requires ready { Ready matrix.now near.now k round.now places.now }
-    requires t1_in_bounds { t1.0 < length round.now }
-    requires t2_in_bounds { t2.0 < length round.now }
+pub fn lk_first(plan: &Plan, round: &Round, t1: Stop, t2: Stop, g: u32) -> Picks
+    requires size { plan.now.matrix.n ≡ length round.now.stops.now }
+    requires t1_low { t1.0 < plan.now.matrix.n }
+    requires t2_low { t2.0 < plan.now.matrix.n }
     requires g_bound { g ≤ 2000000000 }
-    ensures { Firsts (length round.now) g (best 3 [] (conts_in (length round.now) matrix.now k near.now round.now [] (leg t1.0 t2.0 ∷ []) t1.0 t2.0 g)) result }
+    ensures { Firsts plan.now.matrix.n g (best 3 [] (conts_on plan.now round.now [] (leg t1.0 t2.0 ∷ []) t1.0 t2.0 g)) result }
 {
-    let n = round.len();
-    let after = succ(round, places, t1);
-    let fwd = same(after, t2);
-    let t2_next = ahead(round, places, fwd, t2);
-    let none = no_pick();
+    let fwd = round.succ(t1) == t2;
+    let t2_next = round.ahead(fwd, t2);
     let mut ps = Picks {
-        a: none,
-        b: none,
-        c: none,
+        a: NONE,
+        b: NONE,
+        c: NONE,
     };
-    let mut i: usize = 0;
-    while i < k {
-        let t3 = listed(near, k, n, t2, i);
-        let d23 = dist(matrix, n, t2, t3);
-        i = i + 1;
-        let t3_over = g <= d23;
-        let t3_barred = either(t3, t1, t2_next);
-        if t3_over {
+    for i in 0..plan.near.count {
+        let t3 = plan.near(t2, i);
+        let d23 = plan.dist(t2, t3);
+        if g <= d23 {
             break;
         }
-        if t3_barred {
+        if either(t3, t1, t2_next) {
             continue;
         }
-        let t4 = behind(round, places, fwd, t3);
-        let partial = g - d23 + dist(matrix, n, t3, t4);
+        let t4 = round.behind(fwd, t3);
+        let partial = g - d23 + plan.dist(t3, t4);
         ps = place_pick(ps, Pick { partial, t3, t4 });
     }
     ps
 }
 
 // The best continuation of a later level.
-pub fn lk_next<'a>(
-    matrix: &[u16],
-    near: &[u32],
-    k: usize,
-    round: &[u32],
-    places: &[u32],
-    added: &'a [u32; 98],
-    added_len: usize,
-    removed: &'a [u32; 99],
-    removed_len: usize,
-    t1: Stop,
-    t2: Stop,
-    g: u32,
-) -> Pick
-    requires ready { Ready matrix.now near.now k round.now places.now }
-    requires added_len_bound { added_len ≤ 98 }
-    requires removed_len_bound { removed_len ≤ 99 }
-    requires t1_in_bounds { t1.0 < length round.now }
-    requires t2_in_bounds { t2.0 < length round.now }
+pub fn lk_next(plan: &Plan, round: &Round, st: &LkState, t1: Stop, t2: Stop, g: u32) -> Pick
+    requires size { plan.now.matrix.n ≡ length round.now.stops.now }
+    requires added_low { st.now.added_len ≤ 98 }
+    requires removed_low { st.now.removed_len ≤ 99 }
+    requires t1_low { t1.0 < plan.now.matrix.n }
+    requires t2_low { t2.0 < plan.now.matrix.n }
     requires g_bound { g ≤ 2000000000 }
-    ensures { Picked (length round.now) g (best 1 [] (conts_in (length round.now) matrix.now k near.now round.now (legs_in added.now added_len) (legs_in removed.now removed_len) t1.0 t2.0 g)) result.partial result.t3.0 result.t4.0 }
+    ensures { Picked plan.now.matrix.n g (best 1 [] (conts_on plan.now round.now (legs_in st.now.added st.now.added_len) (legs_in st.now.removed st.now.removed_len) t1.0 t2.0 g)) result.partial result.t3.0 result.t4.0 }
 {
-    let n = round.len();
-    let after = succ(round, places, t1);
-    let fwd = same(after, t2);
-    let t2_next = ahead(round, places, fwd, t2);
-    let mut best = no_pick();
-    let mut i: usize = 0;
-    while i < k {
-        let t3 = listed(near, k, n, t2, i);
-        let d23 = dist(matrix, n, t2, t3);
-        i = i + 1;
+    let fwd = round.succ(t1) == t2;
+    let t2_next = round.ahead(fwd, t2);
+    let mut best = NONE;
+    for i in 0..plan.near.count {
+        let t3 = plan.near(t2, i);
+        let d23 = plan.dist(t2, t3);
         let over = g <= d23;
         let barred = either(t3, t1, t2_next);
         if over {
@@ -208,12 +167,12 @@ pub fn lk_next<'a>(
         if barred {
             continue;
         }
-        let t4 = behind(round, places, fwd, t3);
-        let partial = g - d23 + dist(matrix, n, t3, t4);
+        let t4 = round.behind(fwd, t3);
+        let partial = g - d23 + plan.dist(t3, t4);
         if partial <= best.partial {
             continue;
         }
-        if barred_by(added, added_len, removed, removed_len, t2, t3, t4) {
+        if barred_by(st, t2, t3, t4) {
             continue;
         }
         best = Pick { partial, t3, t4 };

@@ -4,17 +4,17 @@
 
 ghost use Rattle.std.specs.Prelude.{◌≡◌, ℕ, ◌<◌, ◌≤◌, length};
 ghost use Rattle.rules.specs.Step.{among};
-ghost use Rattle.rules.specs.Queue.{push_all, waiting};
-ghost use Rattle.queue.specs.Lines.{InLine, Waits};
+ghost use Rattle.rules.specs.Queue.{push_all};
+ghost use Rattle.queue.specs.Queues.{SameQueue, waiting_in, Queued};
 ghost use Rattle.lk_state.specs.Stacks.{leg_is, legs_in, stops_in, Stepping, LegWord};
 ghost use Rattle.lk_state.specs.States.{Begun};
 
 use improve::push_two;
 use legs::Stop;
-use queue::Line;
-use ring::stops::edge;
+use queue::queue::Queue;
+use ring::times::edge;
 
-// Three stacks with their counts, and the first t2. A step word is t3 * 4096 + t4, a leg word low * 4096 + high.
+// Three stacks with their counts, for there is no heap, and the first t2. A step word is t3 * 4096 + t4, a leg word low * 4096 + high.
 #[derive(Clone, Copy)]
 pub struct LkState {
     pub steps: [u32; 100],
@@ -35,29 +35,12 @@ pub fn leg_word(a: Stop, b: Stop) -> u32
     edge(a, b)
 }
 
-// A leg is among the first `len` added.
-pub fn added_has<'a>(legs: &'a [u32; 98], len: usize, word: u32) -> bool
-    requires { len ≤ 98 }
+// A leg is among the first `len` of a stack. The newest is the likeliest, so they are read from the top.
+pub fn has<const N: usize>(legs: &[u32; N], len: usize, word: u32) -> bool
+    requires { len ≤ N }
     ensures { result ≡ among (legs_in legs.now len) (leg_is word) }
 {
-    let mut i = len;
-    while 0 < i {
-        i = i - 1;
-        if legs[i] == word {
-            return true;
-        }
-    }
-    false
-}
-
-// A leg is among the first `len` removed.
-pub fn removed_has<'a>(legs: &'a [u32; 99], len: usize, word: u32) -> bool
-    requires { len ≤ 99 }
-    ensures { result ≡ among (legs_in legs.now len) (leg_is word) }
-{
-    let mut i = len;
-    while 0 < i {
-        i = i - 1;
+    for i in (0..len).rev() {
         if legs[i] == word {
             return true;
         }
@@ -85,24 +68,14 @@ pub fn lk_new(t1: Stop, t2: Stop) -> LkState
 }
 
 // Pushes both stops of each of the first `len` step words, in order.
-pub fn push_steps(
-    queue: &mut [u32],
-    flags: &mut [u8],
-    line: Line,
-    steps: &[u32; 100],
-    len: usize,
-) -> Line
-    requires in_line { InLine queue.old flags.old line.head line.count }
+pub fn push_steps(queue: &mut Queue, steps: &[u32; 100], len: usize)
     requires len_bound { len ≤ 100 }
-    requires stepping { Stepping steps.now len (length queue.old) }
-    ensures { Waits (push_all (waiting queue.old line.head line.count) (stops_in steps.now len)) line.head queue.new flags.new result.head result.count }
+    requires stepping { Stepping steps.now len (length queue.old.words.now) }
+    ensures same { SameQueue queue.old queue.new }
+    ensures waits { Queued (push_all (waiting_in queue.old) (stops_in steps.now len)) queue.old.head queue.new }
 {
-    let mut l = line;
-    let mut i: usize = 0;
-    while i < len {
+    for i in 0..len {
         let w = steps[i];
-        l = push_two(queue, flags, l, Stop(w / 4096), Stop(w % 4096));
-        i = i + 1;
+        push_two(queue, Stop(w / 4096), Stop(w % 4096));
     }
-    l
 }

@@ -28,7 +28,7 @@ use Rattle.laws.proofs.RunLaws.{descend_left, descend_queue}
 use Rattle.laws.proofs.TiedLaws.{tied_places}
 use Rattle.laws.proofs.WaitLaws.{waiting_length}
 use Rattle.improve.specs.Steps.{plan_of}
-use Rattle.descent.specs.Handed.{Handed, manner_of, Descended}
+use Rattle.descent.specs.Handed.{manner_of, Descended}
 use Rattle.promises.specs.Promises.{given, Descends}
 use Rattle.refusals.specs.Passed.{CallPassed}
 use Rattle.refusals.proofs.PassLaws.{call_passed}
@@ -58,35 +58,17 @@ module _ (p : Plan) (kind : ℕ) (m : Manner) where
 
 -- ---- memory that passed is what a descent is handed
 module _ (l : Lent) (c : Carried) (told : Bool) (p : CallPassed l c told) where
-  pub descent_handed : Handed l.matrix l.near l.k l.alpha l.ka l.round l.places l.scratch l.queue l.flags c.head c.count
-  descent_handed =
-      let e : length l.round ≡ l.n = p.lent.round_long in
-      record {
-        ready = record { tied = p.tied; square = rw e p.lent.square; lists = rw e p.lent.near_listed };
-        some = p.lent.some_near;
-        alphas = rw e p.lent.alpha_listed;
-        scratch_long = p.lent.scratch_long ∙ sym e;
-        queue_long = p.lent.queue_long ∙ sym e;
-        line = p.line;
-      }
-
-  pub descent_journal : good_journal (length l.round) l.journal c.held ≡ true
-  descent_journal = rw p.lent.round_long p.journal
-
   pub descent_room : 2560 ≤ length l.journal
   unfolding room_in
   descent_room = omega (arith, p.lent.room)
 
-  pub descent_fits : Fit (plan_of (length l.round) l.matrix l.k l.near l.ka l.alpha) (length l.round)
+  pub descent_fits : Fit (plan_of l.n l.matrix l.k l.near l.ka l.alpha) l.n
   unfolding plan_in
-  descent_fits = rw p.lent.round_long p.lent.fits
-
-  pub descent_time : c.time ≡ recount (leg_in (length l.round) l.matrix) l.round
-  descent_time = rw p.lent.round_long p.time
+  descent_fits = p.lent.fits
 
 -- ---- what it leaves
 module _ (l l' : Lent) (c c' : Carried) (told : Bool) (p : CallPassed l c told) (keeps : Bool) (step budget left ended : ℕ) (same : length l'.queue ≡ length l.queue)
-    (d : Descended (descend (plan_of (length l.round) l.matrix l.k l.near l.ka l.alpha) step (manner_of keeps (length l.journal / 5)) budget
+    (d : Descended (descend (plan_of l.n l.matrix l.k l.near l.ka l.alpha) step (manner_of keeps (length l.journal / 5)) budget
     (record { track = track_of l.round l.journal c.held; queue = waiting l.queue c.head c.count; time = c.time })) keeps l.journal c.held
     l'.round l'.places l'.queue l'.flags l'.journal c'.held c'.head c'.count c'.time left ended) where
   ran : Ran
@@ -94,7 +76,7 @@ module _ (l l' : Lent) (c c' : Carried) (told : Bool) (p : CallPassed l c told) 
 
   own : Descended ran keeps l.journal c.held l'.round l'.places l'.queue l'.flags l'.journal c'.held c'.head c'.count c'.time left ended
   unfolding ran plan_in state_in room_in manner_of
-  own = rw p.lent.round_long at d
+  own = d
 
   nobody : ran.state.queue ≡ []
   unfolding ran
@@ -163,7 +145,7 @@ module _ (l : Lent) (c : Carried) (keeps : Bool) (step budget number : ℕ) (is 
       }
 
   pub descend_does : number ≡ 0 → (l' : Lent) (c' : Carried) (left ended : ℕ) → length l'.queue ≡ length l.queue
-      → Descended (descend (plan_of (length l.round) l.matrix l.k l.near l.ka l.alpha) step (manner_of keeps (length l.journal / 5)) budget
+      → Descended (descend (plan_of l.n l.matrix l.k l.near l.ka l.alpha) step (manner_of keeps (length l.journal / 5)) budget
       (record { track = track_of l.round l.journal c.held; queue = waiting l.queue c.head c.count; time = c.time })) keeps l.journal c.held
       l'.round l'.places l'.queue l'.flags l'.journal c'.held c'.head c'.count c'.time left ended
       → Descends l c keeps step budget l' c' 0 (c.time - c'.time) (budget - left) ended

@@ -1,5 +1,5 @@
 -- What a kick leaves.
-use Prim.Native.Nat.{ℕ, ◌+◌, ◌-◌, ◌≤◌, ◌<◌}
+use Prim.Native.Nat.{ℕ, ◌+◌, ◌-◌, ◌*◌, ◌≤◌, ◌<◌}
 use mathlib.Core.Path.{◌≡◌, sym, ap, ap₂, ◌∙◌}
 use mathlib.Core.Bool.{Bool, true}
 use native.Mathlib.Omega.{arith}
@@ -22,7 +22,7 @@ use Rattle.laws.proofs.JournalWordLaws.{good_room}
 use Rattle.laws.proofs.TiedLaws.{tied_places}
 use Rattle.laws.proofs.WaitLaws.{waiting_length}
 use Rattle.planner.proofs.LeaveLaws.{words_grew}
-use Rattle.kicks.specs.Kicking.{Ready, Kicks}
+use Rattle.kicks.specs.Kicking.{Kicks}
 use Rattle.kicks.proofs.CountedLaws.{kick_recount}
 use Rattle.refusals.specs.Passed.{CallPassed}
 
@@ -31,18 +31,10 @@ pub kind_good : (kind draw : ℕ) → good_kick kind draw ≡ true → (kind ≤
 unfolding good_kick
 kind_good kind draw e = let a = and-true (leb kind 2) (leb 1 draw) e in (leb-true kind 2 a.0, leb-true 1 draw a.1)
 
--- memory that passed is ready
-pub kick_ready : (l : Lent) (c : Carried) (told : Bool) → CallPassed l c told → 30 ≤ room_in l - c.held → Ready l.matrix l.round l.places l.journal c.held 30 l.queue l.flags c.head c.count
+-- 30 free entries in words
+pub kick_room : (l : Lent) (c : Carried) → 30 ≤ room_in l - c.held → 5 * (c.held + 30) ≤ length l.journal
 unfolding room_in
-kick_ready l c told p h =
-    record {
-      two = omega (arith, p.lent.two, p.lent.round_long);
-      tied = p.tied;
-      square = rw p.lent.round_long p.lent.square;
-      journalled = record { good = rw p.lent.round_long p.journal; room = omega arith };
-      long = p.lent.queue_long ∙ sym p.lent.round_long;
-      line = p.line;
-    }
+kick_room l c h = omega arith
 
 -- "at most 268,431,360"
 pub time_small : (l : Lent) (c : Carried) (told : Bool) → CallPassed l c told → ((i : ℕ) → i < length l.matrix → at l.matrix i ≤ 65535) → c.time ≤ 268431360
@@ -51,22 +43,17 @@ time_small l c told p s =
     omega (arith, p.time, p.lent.round_long, p.lent.few)
 
 module _ (l l' : Lent) (c c' : Carried) (told : Bool) (p : CallPassed l c told) (free : 30 ≤ room_in l - c.held) (kind x added removed x' : ℕ)
-    (k : Kicks (kick (leg_in (length l.round) l.matrix) kind x (track_of l.round l.journal c.held)) x 30 35 (waiting l.queue c.head c.count) c.head l.journal c.held
+    (k : Kicks (kick (leg_in l.n l.matrix) kind x (track_of l.round l.journal c.held)) x 30 35 (waiting l.queue c.head c.count) c.head l.journal c.held
     l'.round l'.places l'.journal c'.held l'.queue l'.flags c'.head c'.count added removed x') where
-  pub recounted : recount (leg_in (length l.round) l.matrix) l'.round + removed ≡ c.time + added
+  pub recounted : recount (leg_in l.n l.matrix) l'.round + removed ≡ c.time + added
   recounted =
-      let e : c.time ≡ recount (leg_in (length l.round) l.matrix) l.round = p.time ∙ ap (λ (n : ℕ). recount (leg_in n l.matrix) l.round) (sym p.lent.round_long) in
-      omega (arith, kick_recount (leg_in (length l.round) l.matrix) kind x (kick_ready l c told p free) k)
-
-  -- the legs of the plan
-  own : Kicks (kick (leg_in l.n l.matrix) kind x (track_of l.round l.journal c.held)) x 30 35 (waiting l.queue c.head c.count) c.head l.journal c.held
-      l'.round l'.places l'.journal c'.held l'.queue l'.flags c'.head c'.count added removed x'
-  own = rw p.lent.round_long at k
+      let two : 2 ≤ length l.round = omega (arith, p.lent.two, p.lent.round_long) in
+      omega (arith, p.time, kick_recount (leg_in l.n l.matrix) kind x two p.tied k)
 
   pub kick_leaves : length l'.queue ≡ length l.queue → c'.time ≡ c.time + added - removed → Leaves l c (kick_done l c kind x).state c.head l' c'
   unfolding kick_done state_in kicked_state leg_of plan_in track_of
   kick_leaves same time =
-      let m = own.made in
+      let m = k.made in
       let t : Track = (kick (leg_in l.n l.matrix) kind x (track_of l.round l.journal c.held)).made.track in
       let r : l'.round ≡ t.round = ap (λ (z : Track). z.round) m.moved.is in
       let j : entries_of l'.journal c'.held ≡ t.journal = ap (λ (z : Track). z.journal) m.moved.is in
@@ -84,12 +71,12 @@ module _ (l l' : Lent) (c c' : Carried) (told : Bool) (p : CallPassed l c told) 
 
   pub kick_draws : x' ≡ (kick_done l c kind x).draw
   unfolding kick_done state_in leg_of plan_in
-  kick_draws = own.state
+  kick_draws = k.state
 
   pub kick_added : added ≡ (kick_done l c kind x).added
   unfolding kick_done state_in leg_of plan_in
-  kick_added = own.made.added_is.is
+  kick_added = k.made.added_is.is
 
   pub kick_removed : removed ≡ (kick_done l c kind x).removed
   unfolding kick_done state_in leg_of plan_in
-  kick_removed = own.made.removed_is.is
+  kick_removed = k.made.removed_is.is

@@ -77,7 +77,7 @@ module _ (l : Lent) (c : Carried) (kind x number : ℕ) (is : number ≡ kick_nu
       }
 
   pub kick_does : number ≡ 0 → (l' : Lent) (c' : Carried) (added removed x' : ℕ) (change : ℤ)
-      → Kicks (kick (leg_in (length l.round) l.matrix) kind x (track_of l.round l.journal c.held)) x 30 35 (waiting l.queue c.head c.count) c.head l.journal c.held
+      → Kicks (kick (leg_in l.n l.matrix) kind x (track_of l.round l.journal c.held)) x 30 35 (waiting l.queue c.head c.count) c.head l.journal c.held
       l'.round l'.places l'.journal c'.held l'.queue l'.flags c'.head c'.count added removed x'
       → length l'.queue ≡ length l.queue → c'.time ≡ c.time + added - removed → change +ℤ pos removed ≡ pos added → KicksOnce l c kind x l' c' x' 0 change
   unfolding given kick_done

@@ -14,21 +14,31 @@ use Rattle.rules.specs.Lists.{at, keep}
 use Rattle.rules.specs.Ring.{succ, pred, ahead, beside}
 use Rattle.rules.specs.Moves.{two}
 use Rattle.rules.specs.Improve.{Trial, free3, free5, twos, sixths, trials}
+use Rattle.rules.specs.Plan.{list_in}
+use Rattle.legs.specs.declared.plan.Plan.{Plan}
+use Rattle.laws.proofs.EntryLaws.{length_list}
 use Rattle.laws.proofs.ChoiceLaws.{either_if, true_false}
 use Rattle.laws.proofs.LeftLaws.{fifths, sides, thirds, thirds_all, sides_turn, sides_done}
 use Rattle.laws.proofs.SkipLaws.{skip_done, skip_poor, skip_barred, skip_try}
+use Rattle.moves.specs.declared.moves.Move.{Move}
 use Rattle.tries.specs.Picks.{Pick, pick, none, first_of, tried_two}
 use Rattle.tries.proofs.TryLaws.{two_tried}
-use Rattle.seeks.specs.Seeks.{Sought, sought, seek_of, gain_of, sought_fifth, Lasts}
+use Rattle.seeks.specs.Seeks.{Sought, sought, seek_of, gain_of, sought_fifth, LastsIn}
 use Rattle.seeks.proofs.SeekLaws.{part_closes, part_stays, first_closes, two_stays}
 use Rattle.seeks.proofs.FifthLaws.{fifth_sought}
 use Rattle.scans3.specs.Scans.{out3, out5}
 
--- what the loops keep: nothing has closed yet, and what is left finds what the whole finds
-pub record Left (n : ℕ) (left whole : Sought) (i most : ℕ) (top : Time) (closed : Bool) (gain : Time) (t3 t4 t5 t6 : Stop) : Type 0 where
-  pub yet : closed ≡ false
-  pub lasts : Lasts n t3 t4 t5 t6
-  pub small : gain ≤ top
+-- the alpha list of a stop, and how long it is
+abbrev pub alpha_at : Plan → Stop → List Stop
+alpha_at p = list_in p.alpha.count p.alpha.entries.now
+
+pub alpha_long : (p : Plan) (v : Stop) → v < p.matrix.n → length (alpha_at p v) ≡ p.alpha.count
+alpha_long p v h = length_list p.alpha.entries.now p.alpha.count p.alpha.n v p.alpha.listed (omega (arith, h, p.alpha_fits))
+
+-- what the loops keep: nothing has closed yet, and what is left, from the best so far on, finds what the whole finds
+pub record Left (n : ℕ) (left whole : Sought) (i most : ℕ) (top : Time) (best : Move) : Type 0 where
+  pub lasts : LastsIn n best
+  pub small : best.gain ≤ top
   pub within : i ≤ most
   pub finds : left ≡ whole
 

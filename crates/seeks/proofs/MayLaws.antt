@@ -2,18 +2,18 @@
 use Prim.Native.Nat.{ℕ, zero, suc, ◌-◌, ◌≤◌, ◌<◌}
 use mathlib.Core.Path.{◌≡◌, refl, sym, ap, ◌∙◌}
 use mathlib.Core.Logic.{◌⊎◌, inl, inr}
-use mathlib.Core.Bool.{Bool, true, false, not, ◌&&◌}
+use mathlib.Core.Bool.{Bool, true, false, ◌&&◌}
 use mathlib.Core.List.{List, [], ◌∷◌}
 use native.Mathlib.Omega.{arith}
-use borrow.Author.Tests.{lt-ltb, le-ltb, ltb-true}
+use borrow.Author.Tests.{lt-ltb, ltb-true}
 use lib.Dec.{ltb}
 use Rattle.rules.specs.Words.{Stop, Time, Legs}
 use Rattle.rules.specs.Lists.{at, keep}
-use Rattle.rules.specs.Ring.{Leg, leg}
+use Rattle.rules.specs.Ring.{Leg}
 use Rattle.rules.specs.Moves.{Case, two, flips, segment, inner}
 use Rattle.rules.specs.Plan.{leg_in, list_in, leg_of, near_of}
 use Rattle.rules.specs.Improve.{Trial}
-use Rattle.rules.specs.Step.{among, best}
+use Rattle.rules.specs.Step.{best}
 use Rattle.rules.specs.Lk3.{may_move, may_go_on}
 use Rattle.laws.proofs.ChoiceLaws.{either, either_if, true_false, and-true}
 use Rattle.laws.proofs.LoneLaws.{best_of, best_one}
@@ -22,29 +22,9 @@ use Rattle.tries.specs.Picks.{Pick, pick, none}
 use Rattle.seeks.specs.Seeks.{Sought, sought, gain_of, open_of, better_of, seek_of, move_trial, may_in, unbarred}
 use Rattle.seeks.proofs.SeekLaws.{is_closed, move_of, same_best, and-false, seek_closes, seek_stays}
 
--- ---- the legs
-module _ (added removed : List Leg) (t2 t3 t4 t5 t6 : Stop) where
-  pub bars_23 : among removed (leg t2 t3) ≡ true → false ≡ unbarred added removed t2 t3 t4 t5 t6
-  unfolding unbarred
-  bars_23 e = rw e
-
-  module _ (f23 : among removed (leg t2 t3) ≡ false) where
-    pub bars_45 : among removed (leg t4 t5) ≡ true → false ≡ unbarred added removed t2 t3 t4 t5 t6
-    unfolding unbarred
-    bars_45 e = rw (f23, e)
-
-    module _ (f45 : among removed (leg t4 t5) ≡ false) where
-      pub bars_34 : among added (leg t3 t4) ≡ true → false ≡ unbarred added removed t2 t3 t4 t5 t6
-      unfolding unbarred
-      bars_34 e = rw (f23, f45, e)
-
-      pub bars_56 : among added (leg t3 t4) ≡ false → not (among added (leg t5 t6)) ≡ unbarred added removed t2 t3 t4 t5 t6
-      unfolding unbarred
-      bars_56 e = rw (f23, f45, e)
-
--- ---- the tests in the code's order
+-- ---- the tests
 module _ (n : ℕ) (matrix : List Time) (k : ℕ) (near : List Stop) (added removed : List Leg) (deeper : Bool) (t2 : Stop) where
-  may_is : (c : ℕ) (g : Time) (t3 t4 t5 t6 : Stop) → 2 ≤ c
+  pub may_is : (c : ℕ) (g : Time) (t3 t4 t5 t6 : Stop) → 2 ≤ c
       → may_in n matrix k near added removed deeper t2 (move_trial c g t3 t4 t5 t6) ≡ (deeper && (ltb (leg_in n matrix t6 (at (list_in k near t6) 0)) g && unbarred added removed t2 t3 t4 t5 t6))
   unfolding may_in may_go_on may_move move_trial case_of unbarred leg_of near_of
   may_is zero g t3 t4 t5 t6 h = absurd (omega arith)
@@ -57,21 +37,6 @@ module _ (n : ℕ) (matrix : List Time) (k : ℕ) (near : List Stop) (added remo
   pub may_two : (x : Trial) → x.case ≡ two → may_in n matrix k near added removed deeper t2 x ≡ false
   unfolding may_in may_go_on
   may_two x e = rw e (and-false deeper)
-
-  module _ (c : ℕ) (g : Time) (t3 t4 t5 t6 : Stop) (three : 2 ≤ c) (floor : Time) where
-    pub on_low : g ≤ floor → false ≡ (ltb floor g && may_in n matrix k near added removed deeper t2 (move_trial c g t3 t4 t5 t6))
-    on_low h = rw (le-ltb floor g h)
-
-    module _ (high : floor < g) where
-      pub on_last : deeper ≡ false → false ≡ (ltb floor g && may_in n matrix k near added removed deeper t2 (move_trial c g t3 t4 t5 t6))
-      on_last e = rw (lt-ltb floor g high, may_is c g t3 t4 t5 t6 three, e)
-
-      module _ (more : deeper ≡ true) where
-        pub on_poor : g ≤ leg_in n matrix t6 (at (list_in k near t6) 0) → false ≡ (ltb floor g && may_in n matrix k near added removed deeper t2 (move_trial c g t3 t4 t5 t6))
-        on_poor h = rw (lt-ltb floor g high, may_is c g t3 t4 t5 t6 three, more, le-ltb (leg_in n matrix t6 (at (list_in k near t6) 0)) g h)
-
-        pub on_free : (b : Bool) → leg_in n matrix t6 (at (list_in k near t6) 0) < g → b ≡ unbarred added removed t2 t3 t4 t5 t6 → b ≡ (ltb floor g && may_in n matrix k near added removed deeper t2 (move_trial c g t3 t4 t5 t6))
-        on_free b h e = rw (lt-ltb floor g high, may_is c g t3 t4 t5 t6 three, more, lt-ltb (leg_in n matrix t6 (at (list_in k near t6) 0)) g h) e
 
 -- ---- one move seen
 number_case : (c : ℕ) → 2 ≤ c → c ≤ 4 → number_of (case_of c) ≡ c

@@ -6,9 +6,13 @@ use Rattle.rules.specs.Ring.{Leg, leg}
 use Rattle.rules.specs.Improve.{Trial, sixths}
 use Rattle.rules.specs.Step.{among}
 use Rattle.rules.specs.Lk3.{may_go_on}
-use Rattle.rules.specs.SharedWords.{Square, Listed}
+use Rattle.legs.specs.declared.plan.Plan.{Plan}
 use Rattle.moves.specs.Moves.{number_of, case_of}
+use Rattle.moves.specs.declared.moves.Move.{Move}
 use Rattle.tries.specs.Picks.{Pick, pick, no_list}
+use Rattle.lk_state.specs.declared.LkState.{LkState}
+use Rattle.lk_state.specs.Stacks.{legs_in}
+use Rattle.seeks.specs.declared.Sought.{Sought as SoughtIn}
 
 -- a trial that closes and the gain it closes with, or the best so far to go on with and its partial gain
 pub data Sought : Type 0 where
@@ -56,13 +60,11 @@ unfoldable pub sought_fifth : Legs → (Trial → Bool) → Pick → Bool → Ro
 unfolding no_list
 sought_fifth d may so fwd r after t1 t2 t3 t4 t5 g3 = seek_of d t1 may so (sixths d d no_list keep fwd r t1 t2 after t3 t4 t5 g3)
 
--- what a level's scan is handed besides the round: matrix, near lists with an entry at least, and the counts of legs added and removed
-pub record Barring (matrix : List Time) (near : List Stop) (k n added removed : ℕ) : Type 0 where
-  pub square : Square matrix n
-  pub lists : Listed near k n
-  pub some : 1 ≤ k
-  pub few_added : added ≤ 98
-  pub few_removed : removed ≤ 99
+-- what a level's scan is handed: near lists with an entry at least, and counts of legs added and removed that the stacks hold
+pub record Barring (p : Plan) (st : LkState) : Type 0 where
+  pub some : 1 ≤ p.near.count
+  pub few_added : st.added_len ≤ 98
+  pub few_removed : st.removed_len ≤ 99
 
 -- t3 to t6 are stops of n
 pub record Lasts (n : ℕ) (t3 t4 t5 t6 : Stop) : Type 0 where
@@ -76,3 +78,23 @@ pub record Seeks (n : ℕ) (most : Time) (w : Sought) (closed : Bool) (case : �
   pub is : sought closed (pick case gain t3 t4 t5 t6) ≡ w
   pub lasts : Lasts n t3 t4 t5 t6
   pub small : gain ≤ most
+
+-- ---- the same of what is lent
+-- a move as it stands there, and as the trial that it is
+abbrev pub pick_in : Move → Pick
+pick_in m = pick m.case m.gain m.t3.0 m.t4.0 m.t5.0 m.t6.0
+
+abbrev pub trial_in : Move → Trial
+trial_in m = move_trial m.case m.gain m.t3.0 m.t4.0 m.t5.0 m.t6.0
+
+-- what may be gone on with after the legs that a state added and removed
+abbrev pub may_at : Plan → LkState → Bool → Stop → Trial → Bool
+may_at p st deeper t2 = may_in p.matrix.n p.matrix.times.now p.near.count p.near.entries.now (legs_in st.added st.added_len) (legs_in st.removed st.removed_len) deeper t2
+
+-- a move's stops are stops of n
+abbrev pub LastsIn : ℕ → Move → Type 0
+LastsIn n m = Lasts n m.t3.0 m.t4.0 m.t5.0 m.t6.0
+
+-- what was sought is w
+abbrev pub SeeksIn : ℕ → Time → Sought → SoughtIn → Type 0
+SeeksIn n most w s = Seeks n most w s.closed s.mv.case s.mv.gain s.mv.t3.0 s.mv.t4.0 s.mv.t5.0 s.mv.t6.0

@@ -2,20 +2,19 @@
 
 #![tactic(auto)]
 
-ghost use Rattle.std.specs.Prelude.{◌≡◌, true, false, ◌&&◌, List, [], ◌∷◌, ℕ, ◌+◌, ◌-◌, ◌<◌, ◌≤◌, max, ltb, length};
-ghost use Rattle.rules.specs.Plan.{leg_in};
-ghost use Rattle.rules.specs.SharedWords.{Tied};
+ghost use Rattle.std.specs.Prelude.{◌≡◌, true, false, ◌&&◌, [], ◌∷◌, ℕ, ◌+◌, ◌<◌, ◌≤◌, max, ltb, length};
+ghost use Rattle.tries.specs.Picks.{legs_in as leg_at, Tries};
 ghost use Rattle.lk_state.specs.Stacks.{legs_in};
-ghost use Rattle.tries.specs.Picks.{pick, Tries};
-ghost use Rattle.seeks.specs.Seeks.{seek_of, may_in, move_trial, unbarred, sought_fifth, Barring, Lasts, Seeks};
+ghost use Rattle.seeks.specs.Seeks.{seek_of, unbarred, sought_fifth, Barring, pick_in, trial_in, may_at, LastsIn, SeeksIn};
 
-use legs::{Stop, dist};
-use lk_state::{added_has, leg_word, removed_has};
-use moves::entries::{listed, same};
+use legs::Stop;
+use legs::plan::Plan;
+use lk_state::{LkState, has, leg_word};
 use moves::moves::Move;
-use ring::stops::{ahead, behind, beside, between_dir};
+use ring::round::Round;
 
-// A move that closes with its gain, or the best so far to go on with and its partial gain; case 0 is none.
+// A move that closes with its gain, or the best so far to go on with and its partial gain; case 0 is none. A flag beside the move, since both hold
+// one, and most of what reads it reads the move alone.
 #[derive(Clone, Copy)]
 pub struct Sought {
     pub closed: bool,
@@ -23,59 +22,29 @@ pub struct Sought {
 }
 
 // No leg is added that this step removed, none removed that it added.
-pub fn allowed<'a>(
-    added: &'a [u32; 98],
-    adds: usize,
-    removed: &'a [u32; 99],
-    cuts: usize,
-    t2: Stop,
-    t3: Stop,
-    t4: Stop,
-    t5: Stop,
-    t6: Stop,
-) -> bool
-    requires adds_bound { adds ≤ 98 }
-    requires cuts_bound { cuts ≤ 99 }
+#[tactic(auto, unfolding(crate::specs::Seeks::unbarred))]
+pub fn allowed(st: &LkState, t2: Stop, mv: Move) -> bool
+    requires added_bound { st.now.added_len ≤ 98 }
+    requires removed_bound { st.now.removed_len ≤ 99 }
     requires t2_bound { t2.0 < 4096 }
-    requires t3_bound { t3.0 < 4096 }
-    requires t4_bound { t4.0 < 4096 }
-    requires t5_bound { t5.0 < 4096 }
-    requires t6_bound { t6.0 < 4096 }
-    ensures { result ≡ unbarred (legs_in added.now adds) (legs_in removed.now cuts) t2.0 t3.0 t4.0 t5.0 t6.0 }
+    requires lasts { LastsIn 4096 mv }
+    ensures { result ≡ unbarred (legs_in st.now.added st.now.added_len) (legs_in st.now.removed st.now.removed_len) t2.0 mv.t3.0 mv.t4.0 mv.t5.0 mv.t6.0 }
 {
-    if removed_has(removed, cuts, leg_word(t2, t3)) {
-        return false;
-    }
-    if removed_has(removed, cuts, leg_word(t4, t5)) {
-        return false;
-    }
-    if added_has(added, adds, leg_word(t3, t4)) {
-        return false;
-    }
-    !added_has(added, adds, leg_word(t5, t6))
+    !(has(&st.removed, st.removed_len, leg_word(t2, mv.t3))
+        || has(&st.removed, st.removed_len, leg_word(mv.t4, mv.t5))
+        || has(&st.added, st.added_len, leg_word(mv.t3, mv.t4))
+        || has(&st.added, st.added_len, leg_word(mv.t5, mv.t6)))
 }
 
 // Whether a 3-opt move is better than the best so far and may be gone on with: another level is left, some t7 could keep the gain above 0, as
 // the first entry of t6's near list tells, and no leg is barred.
-pub fn goes_on<'a>(
-    matrix: &[u16],
-    near: &[u32],
-    k: usize,
-    n: usize,
-    added: &'a [u32; 98],
-    adds: usize,
-    removed: &'a [u32; 99],
-    cuts: usize,
-    deeper: bool,
-    t2: Stop,
-    mv: Move,
-    floor: u32,
-) -> bool
-    requires barring { Barring matrix.now near.now k n adds cuts }
-    requires t2_lt_n { t2.0 < n }
-    requires lasts { Lasts n mv.t3.0 mv.t4.0 mv.t5.0 mv.t6.0 }
+#[tactic(auto, using(crate::proofs::MayLaws::may_is))]
+pub fn goes_on(plan: &Plan, st: &LkState, deeper: bool, t2: Stop, mv: Move, floor: u32) -> bool
+    requires barring { Barring plan.now st.now }
+    requires t2_low { t2.0 < plan.now.matrix.n }
+    requires lasts { LastsIn plan.now.matrix.n mv }
     requires le_case { 2 ≤ mv.case }
-    ensures { result ≡ ltb floor mv.gain && may_in n matrix.now k near.now (legs_in added.now adds) (legs_in removed.now cuts) deeper t2.0 (move_trial mv.case mv.gain mv.t3.0 mv.t4.0 mv.t5.0 mv.t6.0) }
+    ensures { result ≡ ltb floor mv.gain && may_at plan.now st.now deeper t2.0 (trial_in mv) }
 {
     if mv.gain <= floor {
         return false;
@@ -83,39 +52,34 @@ pub fn goes_on<'a>(
     if !deeper {
         return false;
     }
-    let first = listed(near, k, n, mv.t6, 0);
-    if mv.gain <= dist(matrix, n, mv.t6, first) {
+    let first = plan.near(mv.t6, 0);
+    if mv.gain <= plan.dist(mv.t6, first) {
         return false;
     }
-    allowed(added, adds, removed, cuts, t2, mv.t3, mv.t4, mv.t5, mv.t6)
+    allowed(st, t2, mv)
 }
 
 // One 3-opt move, its gain the partial one.
-pub fn seek_one<'a>(
-    matrix: &[u16],
-    near: &[u32],
-    k: usize,
-    n: usize,
-    added: &'a [u32; 98],
-    adds: usize,
-    removed: &'a [u32; 99],
-    cuts: usize,
+#[tactic(auto, using(crate::proofs::MayLaws::one_closes, crate::proofs::MayLaws::one_better, crate::proofs::MayLaws::one_stays), unfolding(crate::specs::Seeks::gain_of))]
+pub fn seek_one(
+    plan: &Plan,
+    st: &LkState,
     deeper: bool,
     t1: Stop,
     t2: Stop,
     mv: Move,
     best: Move,
 ) -> Sought
-    requires barring { Barring matrix.now near.now k n adds cuts }
-    requires t1_lt_n { t1.0 < n }
-    requires t2_lt_n { t2.0 < n }
+    requires barring { Barring plan.now st.now }
+    requires t1_low { t1.0 < plan.now.matrix.n }
+    requires t2_low { t2.0 < plan.now.matrix.n }
     requires le_case { 2 ≤ mv.case }
     requires case_bound { mv.case ≤ 4 }
-    requires lasts { Lasts n mv.t3.0 mv.t4.0 mv.t5.0 mv.t6.0 }
-    requires lasts_2 { Lasts n best.t3.0 best.t4.0 best.t5.0 best.t6.0 }
-    ensures { Seeks n (max mv.gain best.gain) (seek_of (leg_in n matrix.now) t1.0 (may_in n matrix.now k near.now (legs_in added.now adds) (legs_in removed.now cuts) deeper t2.0) (pick best.case best.gain best.t3.0 best.t4.0 best.t5.0 best.t6.0) (move_trial mv.case mv.gain mv.t3.0 mv.t4.0 mv.t5.0 mv.t6.0 ∷ [])) result.closed result.mv.case result.mv.gain result.mv.t3.0 result.mv.t4.0 result.mv.t5.0 result.mv.t6.0 }
+    requires lasts { LastsIn plan.now.matrix.n mv }
+    requires lasts_best { LastsIn plan.now.matrix.n best }
+    ensures { SeeksIn plan.now.matrix.n (max mv.gain best.gain) (seek_of (leg_at plan.now) t1.0 (may_at plan.now st.now deeper t2.0) (pick_in best) (trial_in mv ∷ [])) result }
 {
-    let d61 = dist(matrix, n, mv.t6, t1);
+    let d61 = plan.dist(mv.t6, t1);
     if d61 < mv.gain {
         let mut out = mv;
         out.gain = mv.gain - d61;
@@ -124,10 +88,7 @@ pub fn seek_one<'a>(
             mv: out,
         };
     }
-    let on = goes_on(
-        matrix, near, k, n, added, adds, removed, cuts, deeper, t2, mv, best.gain,
-    );
-    if on {
+    if goes_on(plan, st, deeper, t2, mv, best.gain) {
         return Sought { closed: false, mv };
     }
     Sought {
@@ -137,16 +98,11 @@ pub fn seek_one<'a>(
 }
 
 // t4 before t3: t6 is ahead of t5 where that lies between t2 and t4, else behind it.
-pub fn seek_before<'a>(
-    matrix: &[u16],
-    near: &[u32],
-    k: usize,
-    round: &[u32],
-    places: &[u32],
-    added: &'a [u32; 98],
-    adds: usize,
-    removed: &'a [u32; 99],
-    cuts: usize,
+#[tactic(auto, using(crate::proofs::FifthLaws::before_one))]
+pub fn seek_before(
+    plan: &Plan,
+    round: &Round,
+    st: &LkState,
     deeper: bool,
     fwd: bool,
     g3: u32,
@@ -157,17 +113,16 @@ pub fn seek_before<'a>(
     t5: Stop,
     best: Move,
 ) -> Sought
-    requires tied { Tied round.now places.now }
-    requires barring { Barring matrix.now near.now k (length round.now) adds cuts }
-    requires tries { Tries matrix.now (length round.now) t1.0 t2.0 t3.0 t4.0 t5.0 }
+    requires size { plan.now.matrix.n ≡ length round.now.stops.now }
+    requires barring { Barring plan.now st.now }
+    requires tries { Tries plan.now.matrix.n t1.0 t2.0 t3.0 t4.0 t5.0 }
     requires g3_bound { g3 ≤ 6684570 }
-    requires lasts { Lasts (length round.now) best.t3.0 best.t4.0 best.t5.0 best.t6.0 }
-    ensures { Seeks (length round.now) (max (g3 + 65535) best.gain) (sought_fifth (leg_in (length round.now) matrix.now) (may_in (length round.now) matrix.now k near.now (legs_in added.now adds) (legs_in removed.now cuts) deeper t2.0) (pick best.case best.gain best.t3.0 best.t4.0 best.t5.0 best.t6.0) fwd round.now false t1.0 t2.0 t3.0 t4.0 t5.0 g3) result.closed result.mv.case result.mv.gain result.mv.t3.0 result.mv.t4.0 result.mv.t5.0 result.mv.t6.0 }
+    requires lasts { LastsIn plan.now.matrix.n best }
+    ensures { SeeksIn plan.now.matrix.n (max (g3 + 65535) best.gain) (sought_fifth (leg_at plan.now) (may_at plan.now st.now deeper t2.0) (pick_in best) fwd round.now.stops.now false t1.0 t2.0 t3.0 t4.0 t5.0 g3) result }
 {
-    let n = round.len();
-    let inside = between_dir(round, places, fwd, t2, t5, t4);
-    let t6 = beside(round, places, fwd, inside, t5);
-    let gain = g3 + dist(matrix, n, t5, t6);
+    let inside = round.between_dir(fwd, t2, t5, t4);
+    let t6 = round.beside(fwd, inside, t5);
+    let gain = g3 + plan.dist(t5, t6);
     let mv = Move {
         case: 2,
         gain,
@@ -176,22 +131,14 @@ pub fn seek_before<'a>(
         t5,
         t6,
     };
-    seek_one(
-        matrix, near, k, n, added, adds, removed, cuts, deeper, t1, t2, mv, best,
-    )
+    seek_one(plan, st, deeper, t1, t2, mv, best)
 }
 
 // t4 after t3: only a t5 between t2 and t3; t6 is ahead of it, then behind it.
-pub fn seek_after<'a>(
-    matrix: &[u16],
-    near: &[u32],
-    k: usize,
-    round: &[u32],
-    places: &[u32],
-    added: &'a [u32; 98],
-    adds: usize,
-    removed: &'a [u32; 99],
-    cuts: usize,
+pub fn seek_after(
+    plan: &Plan,
+    round: &Round,
+    st: &LkState,
     deeper: bool,
     fwd: bool,
     g3: u32,
@@ -202,23 +149,22 @@ pub fn seek_after<'a>(
     t5: Stop,
     best: Move,
 ) -> Sought
-    requires tied { Tied round.now places.now }
-    requires barring { Barring matrix.now near.now k (length round.now) adds cuts }
-    requires tries { Tries matrix.now (length round.now) t1.0 t2.0 t3.0 t4.0 t5.0 }
+    requires size { plan.now.matrix.n ≡ length round.now.stops.now }
+    requires barring { Barring plan.now st.now }
+    requires tries { Tries plan.now.matrix.n t1.0 t2.0 t3.0 t4.0 t5.0 }
     requires g3_bound { g3 ≤ 6684570 }
-    requires lasts { Lasts (length round.now) best.t3.0 best.t4.0 best.t5.0 best.t6.0 }
-    ensures { Seeks (length round.now) (max (g3 + 65535) best.gain) (sought_fifth (leg_in (length round.now) matrix.now) (may_in (length round.now) matrix.now k near.now (legs_in added.now adds) (legs_in removed.now cuts) deeper t2.0) (pick best.case best.gain best.t3.0 best.t4.0 best.t5.0 best.t6.0) fwd round.now true t1.0 t2.0 t3.0 t4.0 t5.0 g3) result.closed result.mv.case result.mv.gain result.mv.t3.0 result.mv.t4.0 result.mv.t5.0 result.mv.t6.0 }
+    requires lasts { LastsIn plan.now.matrix.n best }
+    ensures { SeeksIn plan.now.matrix.n (max (g3 + 65535) best.gain) (sought_fifth (leg_at plan.now) (may_at plan.now st.now deeper t2.0) (pick_in best) fwd round.now.stops.now true t1.0 t2.0 t3.0 t4.0 t5.0 g3) result }
 {
-    let n = round.len();
-    let inside = between_dir(round, places, fwd, t2, t5, t3);
+    let inside = round.between_dir(fwd, t2, t5, t3);
     if !inside {
         return Sought {
             closed: false,
             mv: best,
         };
     }
-    let next = ahead(round, places, fwd, t5);
-    let open = g3 + dist(matrix, n, t5, next);
+    let next = round.ahead(fwd, t5);
+    let open = g3 + plan.dist(t5, next);
     let one = Move {
         case: 3,
         gain: open,
@@ -227,18 +173,12 @@ pub fn seek_after<'a>(
         t5,
         t6: next,
     };
-    let first = seek_one(
-        matrix, near, k, n, added, adds, removed, cuts, deeper, t1, t2, one, best,
-    );
-    if first.closed {
+    let first = seek_one(plan, st, deeper, t1, t2, one, best);
+    if first.closed || t5 == t2 {
         return first;
     }
-    let whole = same(t5, t2);
-    if whole {
-        return first;
-    }
-    let last = behind(round, places, fwd, t5);
-    let other = g3 + dist(matrix, n, t5, last);
+    let last = round.behind(fwd, t5);
+    let other = g3 + plan.dist(t5, last);
     let two = Move {
         case: 4,
         gain: other,
@@ -247,23 +187,14 @@ pub fn seek_after<'a>(
         t5,
         t6: last,
     };
-    let so = first.mv;
-    seek_one(
-        matrix, near, k, n, added, adds, removed, cuts, deeper, t1, t2, two, so,
-    )
+    seek_one(plan, st, deeper, t1, t2, two, first.mv)
 }
 
 // The 3-opt moves of a t5.
-pub fn seek_fifth<'a>(
-    matrix: &[u16],
-    near: &[u32],
-    k: usize,
-    round: &[u32],
-    places: &[u32],
-    added: &'a [u32; 98],
-    adds: usize,
-    removed: &'a [u32; 99],
-    cuts: usize,
+pub fn seek_fifth(
+    plan: &Plan,
+    round: &Round,
+    st: &LkState,
     deeper: bool,
     fwd: bool,
     after: bool,
@@ -275,21 +206,16 @@ pub fn seek_fifth<'a>(
     t5: Stop,
     best: Move,
 ) -> Sought
-    requires tied { Tied round.now places.now }
-    requires barring { Barring matrix.now near.now k (length round.now) adds cuts }
-    requires tries { Tries matrix.now (length round.now) t1.0 t2.0 t3.0 t4.0 t5.0 }
+    requires size { plan.now.matrix.n ≡ length round.now.stops.now }
+    requires barring { Barring plan.now st.now }
+    requires tries { Tries plan.now.matrix.n t1.0 t2.0 t3.0 t4.0 t5.0 }
     requires g3_bound { g3 ≤ 6684570 }
-    requires lasts { Lasts (length round.now) best.t3.0 best.t4.0 best.t5.0 best.t6.0 }
-    ensures { Seeks (length round.now) (max (g3 + 65535) best.gain) (sought_fifth (leg_in (length round.now) matrix.now) (may_in (length round.now) matrix.now k near.now (legs_in added.now adds) (legs_in removed.now cuts) deeper t2.0) (pick best.case best.gain best.t3.0 best.t4.0 best.t5.0 best.t6.0) fwd round.now after t1.0 t2.0 t3.0 t4.0 t5.0 g3) result.closed result.mv.case result.mv.gain result.mv.t3.0 result.mv.t4.0 result.mv.t5.0 result.mv.t6.0 }
+    requires lasts { LastsIn plan.now.matrix.n best }
+    ensures { SeeksIn plan.now.matrix.n (max (g3 + 65535) best.gain) (sought_fifth (leg_at plan.now) (may_at plan.now st.now deeper t2.0) (pick_in best) fwd round.now.stops.now after t1.0 t2.0 t3.0 t4.0 t5.0 g3) result }
 {
     if after {
-        return seek_after(
-            matrix, near, k, round, places, added, adds, removed, cuts, deeper, fwd, g3, t1, t2,
-            t3, t4, t5, best,
-        );
+        seek_after(plan, round, st, deeper, fwd, g3, t1, t2, t3, t4, t5, best)
+    } else {
+        seek_before(plan, round, st, deeper, fwd, g3, t1, t2, t3, t4, t5, best)
     }
-    seek_before(
-        matrix, near, k, round, places, added, adds, removed, cuts, deeper, fwd, g3, t1, t2, t3,
-        t4, t5, best,
-    )
 }

@@ -10,6 +10,7 @@ use legs::plan::Plan;
 use moves::moves::Move;
 use ring::round::Round;
 
+// No move.
 pub fn no_move() -> Move
     ensures { (n : ℕ) → 0 < n → ChosenMove n none result }
 {

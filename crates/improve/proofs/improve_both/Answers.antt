@@ -1,4 +1,3 @@
-use Prim.Native.Nat.{ℕ}
 use mathlib.Core.Path.{◌≡◌}
 use mathlib.Core.Bool.{true, false}
 use native.Mathlib.Omega.{arith}
@@ -13,11 +12,10 @@ use Rattle.improve.proofs.improve_both.Goals as goal
 pub returns-then-gain-gt0-clause-stepped : goal.returns-then-gain-gt0-clause-stepped
 returns-then-gain-gt0-clause-stepped c = λ ka alpha.
     let a = c.args in
-    let m = a.plan.now.matrix in
-    let l = a.plan.now.near in
+    let p = a.plan.now in
     let t = track_in a.work.now.track.now in
-    stepped_is (both_is m.n m.times.now l.count l.entries.now ka alpha a.t1.0 t)
-    (stepped_first (improve (plan_with a.plan.now ka alpha) false a.t1.0) (stepped_is (improve_any m.n m.times.now l.count l.entries.now ka alpha a.t1.0 t true) c.improve-gain.ensures.stepped) (omega (arith, c.if-gain-gt0.true)) (omega arith))
+    stepped_is (both_is p ka alpha a.t1.0 t)
+    (stepped_first (improve (plan_with p ka alpha) false a.t1.0) (stepped_is (improve_any p ka alpha a.t1.0 t true) c.improve-gain.ensures.stepped) (omega (arith, c.if-gain-gt0.true)) (omega arith))
 
 pub improve-requires-clause-room : goal.improve-requires-clause-room
 improve-requires-clause-room c =
@@ -30,11 +28,9 @@ improve-requires-clause-room c =
 pub returns-clause-stepped : goal.returns-clause-stepped
 returns-clause-stepped c = λ ka alpha.
     let a = c.args in
-    let m = a.plan.now.matrix in
-    let l = a.plan.now.near in
-    let p = plan_with a.plan.now ka alpha in
+    let p = a.plan.now in
     let t = track_in a.work.now.track.now in
     let none : c.improve-gain.result ≡ 0 = omega arith in
-    stepped_is (both_is m.n m.times.now l.count l.entries.now ka alpha a.t1.0 t)
-    (stepped_else a.work.now.track.now.stops.now (improve_stays p a.t1.0 t true) (stepped_is (improve_any m.n m.times.now l.count l.entries.now ka alpha a.t1.0 t true) c.improve-gain.ensures.stepped) none (improve p false a.t1.0)
-    (stepped_is (improve_any m.n m.times.now l.count l.entries.now ka alpha a.t1.0 (track_in c.improve-gain.new.work.track.now) false) c.improve.ensures.stepped))
+    stepped_is (both_is p ka alpha a.t1.0 t)
+    (stepped_else a.work.now.track.now.stops.now (improve_stays (plan_with p ka alpha) a.t1.0 t true) (stepped_is (improve_any p ka alpha a.t1.0 t true) c.improve-gain.ensures.stepped) none (improve (plan_with p ka alpha) false a.t1.0)
+    (stepped_is (improve_any p ka alpha a.t1.0 (track_in c.improve-gain.new.work.track.now) false) c.improve.ensures.stepped))

@@ -1,6 +1,5 @@
-use mathlib.Core.Path.{sym}
 use Rattle.kicks.specs.Kicking.{legs_in}
-use Rattle.kicks.proofs.ExchangeLaws.{exchange_made, ends_eight, eight_other}
+use Rattle.kicks.proofs.ExchangeLaws.{exchange_made}
 use Rattle.kicks.proofs.exchange.Goals as goal
 
 pub returns-clause-made : goal.returns-clause-made

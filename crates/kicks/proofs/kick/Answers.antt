@@ -1,6 +1,5 @@
 use mathlib.Core.Path.{◌≡◌, refl, ◌∙◌}
 use native.Mathlib.Omega.{arith}
-use lib.ListN.{length}
 use Rattle.rules.specs.Journal.{track_of}
 use Rattle.rules.specs.Kicks.{kind_at}
 use Rattle.journal.specs.Tracks.{track_in}
@@ -17,12 +16,6 @@ returns-then-kind_at-eq2-clause-kicked c =
     let t = a.work.now.track.now in
     let two : kind_at a.matrix.now.n a.kind ≡ 2 = omega (arith, c.kind_at.ensures, c.if-kind_at-eq2.true) in
     rw (kick_global (legs_in a.matrix.now) a.kind a.state.now (track_in t) (rw c.requires.ready.size at two)) c.global_kick.ensures.kicked
-
-pub draw_cut-cut-requires : goal.draw_cut-cut-requires
-draw_cut-cut-requires c =
-    let a = c.args in
-    let stays = kind_stays a.matrix.now.n a.kind c.requires.kind_bound (λ e. c.if-kind_at-eq2.false (c.kind_at.ensures ∙ e)) in
-    record { le_n = omega (arith, c.requires.ready); n_bound = omega (arith, c.requires.ready.size, a.work.now.track.now.tied.few); kind_bound = stays.0; kind_value = stays.1 }
 
 pub returns-clause-kicked : goal.returns-clause-kicked
 unfolding track_of

@@ -62,7 +62,7 @@ sides-preserved c =
     let i = c.fifths.invariant in
     elim c.fifths-test.branch [
       | else-fifths-test w ↦ record { yet = i.yet; within = search rules; finds = sym (done5 _ _ _ _ _ _ _ _ _ _ c.fifths.j _ _ _ _ (omega (arith, long, w.fifths-test.false))) ∙ i.finds }
-      | then-fifths-test+then-t5_over w ↦ record { yet = i.yet; within = search rules; finds = sym (stop5 _ _ _ _ _ _ _ _ _ _ c.fifths.j _ _ _ _ w.near-t5.result.0 w.dist-d45.result (omega (arith, long, w.fifths-test.true)) w.near-t5.ensures.is w.dist-d45.ensures.is (le-leb _ _ w.if-t5_over.true)) ∙ i.finds }
+      | then-fifths-test+then-t5_over w ↦ record { yet = i.yet; within = search rules; finds = sym (stop5 _ _ _ _ _ _ _ _ _ _ c.fifths.j _ _ _ _ w.near-t5.result.0 w.dist-d45.result (omega (arith, long, w.fifths-test.true)) w.near-t5.ensures.is w.dist-d45.ensures.is (le-leb _ _ (omega arith))) ∙ i.finds }
     ]
 
 pub thirds-preserved : goal.thirds-preserved

@@ -1,5 +1,3 @@
-use Prim.Native.Nat.{◌-◌}
-use mathlib.Core.Path.{◌≡◌}
 use native.Mathlib.Omega.{arith}
 use Rattle.journal.proofs.SameLaws.{track_stays, track_through}
 use Rattle.kicks.proofs.ShuffleLaws.{shuffle_starts, shuffle_turn, shuffle_done}

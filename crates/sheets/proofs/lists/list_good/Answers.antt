@@ -10,5 +10,5 @@ use Rattle.sheets.proofs.lists.list_good.Goals as goal
 pub returns : goal.returns
 returns c =
     all_from_yields_List (λ v. good_row c.args.n v (fields 12 c.args.k (drop (c.args.at + 12 * (v * c.args.k)) (bits_of c.args.s.now)))) _ _ c.all.result c.all.ensures.ran
-    (YieldsList-from_range 0 c.args.n c.args.n refl (omega arith)) (λ x b q k. search (rules, tests))
+    (YieldsList-from_range 0 c.args.n c.args.n refl (omega arith)) (λ x b q k. (search rules, search (rules, tests)))
     ∙ list_is (bits_of c.args.s.now) c.args.at c.args.n c.args.k
