@@ -24,7 +24,7 @@ pub mod steps;
 // The free journal entries that a step may take.
 const STEP: usize = 100;
 
-// Where a descent stands: the carried time, the units left and how it ended.
+// Where a descent stands: the carried time, the units left and how it ended, as the number that the C interface gives back.
 #[derive(Clone, Copy)]
 pub struct Descent {
     pub time: u32,
@@ -81,6 +81,7 @@ pub fn run(plan: &Plan, work: &mut Work, step: u32, keeps: bool, budget: u32, ti
     let mut carried = time;
     let mut ended: u32 = 0;
     keep(&mut *work.track, keeps);
+    // No `for`: steps put stops in the queue that it empties.
     'stops: while 0 < work.queue.count {
         if left == 0 {
             ended = 1;

@@ -29,7 +29,7 @@ pub fn lk_step(plan: &Plan, work: &mut Work, v: Stop) -> u32
     improve_both(plan, work, v)
 }
 
-// Kind 1, Lk3: the same with `lk3_from`.
+// Kind 1, Lk3: the same with `lk3_from`. In one function with `lk_step` the kind would be asked twice.
 pub fn lk3_step(plan: &Plan, work: &mut Work, v: Stop) -> u32
     requires size { plan.now.matrix.n ≡ length work.old.track.now.stops.now }
     requires some { 1 ≤ plan.now.near.count }
@@ -62,7 +62,7 @@ pub fn lk3_only_step(plan: &Plan, work: &mut Work, v: Stop) -> u32
     }
 }
 
-// The step of a kind.
+// The step of a kind, a number that the C interface is given.
 pub fn step_from(plan: &Plan, work: &mut Work, step: u32, v: Stop) -> u32
     requires size { plan.now.matrix.n ≡ length work.old.track.now.stops.now }
     requires some { 1 ≤ plan.now.near.count }

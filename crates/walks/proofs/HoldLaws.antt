@@ -1,5 +1,5 @@
 -- Memory that stands for a state, through kicks and descents.
-use Prim.Native.Nat.{ℕ, ◌+◌, ◌-◌, ◌*◌, ◌/◌, ◌≤◌, ◌<◌}
+use Prim.Native.Nat.{ℕ, ◌+◌, ◌-◌, ◌/◌, ◌≤◌, ◌<◌}
 use mathlib.Core.Path.{◌≡◌, refl, sym, ap, subst, ◌∙◌}
 use mathlib.Core.Bool.{Bool, true}
 use mathlib.Core.List.{List, []}
@@ -19,16 +19,21 @@ use Rattle.rules.specs.Memory.{Lent, Carried, room_in, plan_in, state_in}
 use Rattle.laws.proofs.BoundLaws.{leg_in_short, recount_bound}
 use Rattle.laws.proofs.DescendLaws.{Sound, descend_sound}
 use Rattle.laws.proofs.EveryLaws.{at_below}
-use Rattle.laws.proofs.GainLaws.{Fit}
 use Rattle.laws.proofs.RunLaws.{descend_queue}
 use Rattle.laws.proofs.TiedLaws.{tied_perm}
-use Rattle.laws.proofs.WaitLaws.{waiting_length}
+use Rattle.laws.proofs.WaitLaws.{waiting_length, flags_of_length}
+use Rattle.legs.specs.declared.matrix.Matrix.{Matrix}
+use Rattle.legs.specs.declared.plan.Plan.{Plan}
+use Rattle.queue.specs.Queues.{waiting_in}
+use Rattle.work.specs.declared.work.Work.{Work}
+use Rattle.work.specs.Works.{SameWork}
 use Rattle.improve.specs.Steps.{plan_of}
-use Rattle.kicks.specs.Kicking.{Ready, Kicks}
+use Rattle.kicks.specs.Kicking.{Kicks}
 use Rattle.kicks.proofs.CountedLaws.{kick_recount}
-use Rattle.descent.specs.Handed.{Handed, Descended, manner_of}
+use Rattle.descent.specs.Handed.{Descended, manner_of}
 use Rattle.refusals.specs.Lending.{lending, carrying}
 use Rattle.walks.specs.Walking.{Given, Desk, Works, bare, Shook, Dives}
+use Rattle.walks.specs.Standing.{lent_in, bare_in, carried_in, Idle}
 
 -- the same lists and numbers, over other memory
 abbrev pub after : Lent → Round → List Place → List ℕ → List ℕ → List ℕ → List ℕ → Lent
@@ -42,6 +47,33 @@ pub record Same (l : Lent) (round : Round) (places : List Place) (queue flags sc
   pub flags_same : length flags ≡ length l.flags
   pub scratch_same : length scratch ≡ length l.scratch
   pub journal_same : length journal ≡ length l.journal
+
+-- so is what is worked on in place
+flags_long : (w : Work) → length w.queue.now.flags.now ≡ length w.queue.now.words.now
+flags_long w = let q = w.queue.now in ap length q.in_line.agreed ∙ flags_of_length (length q.words.now) (waiting_in q)
+
+words_same : {a b : Work} → SameWork a b → length b.queue.now.words.now ≡ length a.queue.now.words.now
+words_same {a} {b} s = b.queue_fits ∙ s.size ∙ sym a.queue_fits
+
+pub same_bare : (m : Matrix) {a b : Work} → SameWork a b → Same (bare_in m a) b.track.now.stops.now b.track.now.places.now b.queue.now.words.now b.queue.now.flags.now b.scratch.now b.track.now.journal.now
+same_bare m {a} {b} s =
+    record {
+      round_same = s.size;
+      places_same = b.track.now.tied.same ∙ s.size ∙ sym a.track.now.tied.same;
+      queue_same = words_same s;
+      flags_same = flags_long b ∙ words_same s ∙ sym (flags_long a);
+      scratch_same = b.scratch_fits ∙ s.size ∙ sym a.scratch_fits;
+      journal_same = s.room;
+    }
+
+pub same_lent : (p : Plan) {a b : Work} → SameWork a b → Same (lent_in p a) b.track.now.stops.now b.track.now.places.now b.queue.now.words.now b.queue.now.flags.now b.scratch.now b.track.now.journal.now
+same_lent p s =
+    let e = same_bare p.matrix s in
+    record { round_same = e.round_same; places_same = e.places_same; queue_same = e.queue_same; flags_same = e.flags_same; scratch_same = e.scratch_same; journal_same = e.journal_same }
+
+-- nothing is journalled and nobody waits
+pub idle_is : {w : Work} (time : Time) → Idle w → carried_in w time ≡ carrying 0 0 0 time
+idle_is time e = λ i. carrying (e.begins i) (e.nobody i) (e.none_held i) time
 
 pub desk_after : (l : Lent) → Desk l → (round : Round) (places : List Place) (queue flags scratch journal : List ℕ) → Same l round places queue flags scratch journal → Desk (after l round places queue flags scratch journal)
 desk_after l w round places queue flags scratch journal e =
@@ -95,25 +127,11 @@ works_loaded l time w = λ i. record { track = record { round = l.round; journal
 
 -- ---- kicks
 module _ (l : Lent) (c : Carried) (w : Works l c) where
-  pub kick_ready : 5 * (c.held + 30) ≤ length l.journal → Ready l.matrix l.round l.places l.journal c.held 30 l.queue l.flags c.head c.count
-  kick_ready h =
-      record {
-        two = omega (arith, w.desk.two, w.desk.round_long);
-        tied = w.tied;
-        square = rw w.desk.round_long w.desk.square;
-        journalled = record { good = rw w.desk.round_long w.good; room = h };
-        long = w.desk.queue_long ∙ sym w.desk.round_long;
-        line = w.line;
-      }
-
-  module _ (free : 5 * (c.held + 30) ≤ length l.journal) (round : Round) (places : List Place) (queue flags scratch journal : List ℕ) (e : Same l round places queue flags scratch journal)
+  module _ (round : Round) (places : List Place) (queue flags scratch journal : List ℕ) (e : Same l round places queue flags scratch journal)
       (kind x : ℕ) {held : ℕ} {head : Place} {count added removed new : ℕ}
-      (k : Kicks (kick (leg_in (length l.round) l.matrix) kind x (track_of l.round l.journal c.held)) x 30 35 (waiting l.queue c.head c.count) c.head l.journal c.held round places journal held queue flags head count added removed new) where
+      (k : Kicks (kick (leg_in l.n l.matrix) kind x (track_of l.round l.journal c.held)) x 30 35 (waiting l.queue c.head c.count) c.head l.journal c.held round places journal held queue flags head count added removed new) where
     pub kick_counts : recount (leg_in l.n l.matrix) round + removed ≡ c.time + added
-    kick_counts =
-        let f : recount (leg_in (length l.round) l.matrix) round + removed ≡ recount (leg_in (length l.round) l.matrix) l.round + added = kick_recount (leg_in (length l.round) l.matrix) kind x (kick_ready free) k in
-        let g : recount (leg_in l.n l.matrix) round + removed ≡ recount (leg_in l.n l.matrix) l.round + added = rw w.desk.round_long at f in
-        omega (arith, w.carried)
+    kick_counts = omega (arith, w.carried, kick_recount (leg_in l.n l.matrix) kind x {r = l.round} (omega (arith, w.desk.two, w.desk.round_long)) w.tied k)
 
     kicked_works : Works (after l round places queue flags scratch journal) (carrying head count held (c.time + added - removed))
     kicked_works =
@@ -125,49 +143,25 @@ module _ (l : Lent) (c : Carried) (w : Works l c) where
           carried = omega (arith, kick_counts);
         }
 
-    own : Kicks (kick (leg_in l.n l.matrix) kind x (track_of l.round l.journal c.held)) x 30 35 (waiting l.queue c.head c.count) c.head l.journal c.held round places journal held queue flags head count added removed new
-    own = rw w.desk.round_long at k
-
     pub kick_shook : Shook (shaken (leg_in l.n l.matrix) 1 kind (state_in l c) x) (after l round places queue flags scratch journal) (carrying head count held (c.time + added - removed)) new
     unfolding shaken state_in kicked_state track_of
     kick_shook =
         record {
           holds = record {
             works = kicked_works;
-            is = λ i. record { track = own.made.moved.is i; queue = own.made.waits.is i; time = c.time + own.made.added_is.is i - own.made.removed_is.is i };
+            is = λ i. record { track = k.made.moved.is i; queue = k.made.waits.is i; time = c.time + k.made.added_is.is i - k.made.removed_is.is i };
           };
-          draw_is = own.state;
+          draw_is = k.state;
         }
 
 -- ---- descents
 module _ (l : Lent) (c : Carried) (w : Works l c) (g : Given l) where
-  pub handed : Handed l.matrix l.near l.k l.alpha l.ka l.round l.places l.scratch l.queue l.flags c.head c.count
-  handed =
-      record {
-        ready = record { tied = w.tied; square = rw w.desk.round_long w.desk.square; lists = rw w.desk.round_long g.near_listed };
-        some = g.some_near;
-        alphas = rw w.desk.round_long g.alpha_listed;
-        scratch_long = w.desk.scratch_long ∙ sym w.desk.round_long;
-        queue_long = w.desk.queue_long ∙ sym w.desk.round_long;
-        line = w.line;
-      }
-
-  pub good_round : good_journal (length l.round) l.journal c.held ≡ true
-  good_round = rw w.desk.round_long w.good
-
-  pub fits_round : Fit (plan_of (length l.round) l.matrix l.k l.near l.ka l.alpha) (length l.round)
-  unfolding plan_in
-  fits_round = rw w.desk.round_long g.fits
-
-  pub carried_round : c.time ≡ recount (leg_in (length l.round) l.matrix) l.round
-  carried_round = rw w.desk.round_long w.carried
-
   module _ (round : Round) (places : List Place) (queue flags scratch journal : List ℕ) (e : Same l round places queue flags scratch journal)
       (step : ℕ) (keeps : Bool) (budget : ℕ) {held : ℕ} {head : Place} {count : ℕ} {time : Time} {left ended : ℕ}
-      (d : Descended (descend (plan_of (length l.round) l.matrix l.k l.near l.ka l.alpha) step (manner_of keeps (length l.journal / 5)) budget (record { track = track_of l.round l.journal c.held; queue = waiting l.queue c.head c.count; time = c.time })) keeps l.journal c.held round places queue flags journal held head count time left ended) where
+      (d : Descended (descend (plan_of l.n l.matrix l.k l.near l.ka l.alpha) step (manner_of keeps (length l.journal / 5)) budget (record { track = track_of l.round l.journal c.held; queue = waiting l.queue c.head c.count; time = c.time })) keeps l.journal c.held round places queue flags journal held head count time left ended) where
     mine : Descended (descend (plan_in l) step (manner_of keeps (room_in l)) budget (state_in l c)) keeps l.journal c.held round places queue flags journal held head count time left ended
     unfolding plan_in room_in state_in
-    mine = rw w.desk.round_long at d
+    mine = d
 
     ran : Ran
     ran = descend (plan_in l) step (manner_of keeps (room_in l)) budget (state_in l c)

@@ -1,4 +1,3 @@
-mod CopyLaws
 mod DiveLaws
 mod FindLaws
 pub mod HoldLaws

@@ -33,7 +33,7 @@ use Rattle.walks.proofs.HoldLaws.{after, given_after, works_full, works_loaded, 
 use Rattle.walks.proofs.JudgeLaws.{empty_loads}
 
 -- nobody waits
-none_wait : (queue flags : List ℕ) (n : ℕ) → 1 ≤ length queue → length queue ≤ 4096 → length queue ≡ n → flags ≡ flags_of n [] → InLine queue flags 0 0
+pub none_wait : (queue flags : List ℕ) (n : ℕ) → 1 ≤ length queue → length queue ≤ 4096 → length queue ≡ n → flags ≡ flags_of n [] → InLine queue flags 0 0
 unfolding waiting tally
 none_wait queue flags n some few long e =
     record {

@@ -1,10 +1,9 @@
 -- The memory of a walk, read off what is worked on. Assumes nothing.
-use Rattle.std.specs.Prelude.{ℕ, ◌≡◌, Bool, false}
+use Rattle.std.specs.Prelude.{ℕ, ◌≡◌, false}
 use Rattle.rules.specs.Words.{Time, Round}
-use Rattle.rules.specs.Plan.{Plan, leg_in}
-use Rattle.rules.specs.State.{State}
+use Rattle.rules.specs.Plan.{leg_in}
 use Rattle.rules.specs.Descend.{kept, descend}
-use Rattle.rules.specs.Search.{Walk, Shaken, shaken, kicked_once, restarted, turned}
+use Rattle.rules.specs.Search.{Walk, shaken, kicked_once, restarted, turned}
 use Rattle.rules.specs.Memory.{Lent, Carried, room_in, plan_in, state_in}
 use Rattle.legs.specs.declared.matrix.Matrix.{Matrix}
 use Rattle.legs.specs.declared.plan.Plan.{Plan as PlanOf}

@@ -1,4 +1,4 @@
-// The numbers of a walk.
+// The numbers of a walk. What chooses between two of them is a function each: tests in place double the goals of the proof with every test.
 ghost use Rattle.std.specs.Prelude.{◌≡◌, Bool, ◌&&◌, ◌||◌, ℕ, ◌+◌, ◌-◌, ◌*◌, ◌/◌, ◌<◌, ◌≤◌, max, leb, ltb, eqb};
 ghost use Rattle.rules.specs.Lists.{when◌then◌else◌};
 ghost use Rattle.rules.specs.Search.{margin, restart_after as restart_after_of, stop_after as stop_after_of};

@@ -1,4 +1,5 @@
-// The turns of a search: a kick with its kept descent, judged, or a restart from the best.
+// The turns of a search: a kick with its kept descent, judged, or a restart from the best. The kinds of steps and kicks stay numbers, which the
+// callers of the C interface give.
 ghost use Rattle.std.specs.Prelude.{◌≡◌, Bool, true, false, List, [], ℕ, ◌+◌, ◌*◌, ◌<◌, ◌≤◌, length};
 ghost use Rattle.rules.specs.Ring.{recount};
 ghost use Rattle.rules.specs.Plan.{leg_in};
@@ -62,8 +63,7 @@ fn kick_and_descend(
     ensures dives { DivesOn plan.now step kind left work.old state.old work.new result.time result.left state.new }
 {
     let this = choose_kind(state, kind);
-    let matrix = plan.matrix;
-    let kicked = kick_on(&matrix, work, state, time, this);
+    let kicked = kick_on(&plan.matrix, work, state, time, this);
     descend(plan, work, step, true, left, kicked)
 }
 
@@ -150,9 +150,11 @@ fn reshape(matrix: &Matrix, work: &mut Work, best: &[u32], state: &mut u64) -> u
     ensures same { SameWork work.old work.new }
     ensures shook { Shook (shaken (leg_in matrix.now.n matrix.now.times.now) 32 0 (load_of (recount (leg_in matrix.now.n matrix.now.times.now)) best.now) state.old) (bare_in matrix.now work.new) (carried_in work.new result) state.new }
 {
-    let stops = &mut *work.track.stops;
-    let places = &mut *work.track.places;
-    let flags = &mut *work.queue.flags;
+    let track = &mut *work.track;
+    let queue = &mut *work.queue;
+    let stops = &mut *track.stops;
+    let places = &mut *track.places;
+    let flags = &mut *queue.flags;
     let time = load_round(matrix, stops, places, flags, best);
     shake(matrix, work, state, time)
 }
@@ -173,8 +175,7 @@ fn restart(
     ensures idle { Idle work.new }
     ensures goes { GoesOn (restarted_from plan.now step work.old best.old t state.old) plan.now work.new best.new result state.new }
 {
-    let matrix = plan.matrix;
-    let shaken = reshape(&matrix, work, best, state);
+    let shaken = reshape(&plan.matrix, work, best, state);
     let dived = descend(plan, work, step, false, t.left, shaken);
     let track = &mut *work.track;
     let stops = &mut *track.stops;

@@ -7,10 +7,10 @@ use Rattle.rules.specs.Draws.{moved, drawn}
 use Rattle.walks.specs.Walking.{kind_of}
 use Rattle.walks.proofs.turns.choose_kind.Goals as goal
 
-pub returns-then-first-eq0 : goal.returns-then-first-eq0
+pub returns-then-draw-eq0 : goal.returns-then-draw-eq0
 unfolding kind_of
-returns-then-first-eq0 c = let a = c.args in let v = drawn 0 15 (moved a.state.now) in let e : eqb v 0 ≡ true = eq-eqb v 0 (sym c.draw-first.ensures.is ∙ c.if-first-eq0.true) in record { is = rw e refl; known = omega arith; state = c.draw-first.ensures.state }
+returns-then-draw-eq0 c = let a = c.args in let v = drawn 0 15 (moved a.state.now) in let e : eqb v 0 ≡ true = eq-eqb v 0 (sym c.draw.ensures.is ∙ c.if-draw-eq0.true) in record { is = rw e refl; known = omega arith; state = c.draw.ensures.state }
 
-pub returns-else-first-eq0 : goal.returns-else-first-eq0
+pub returns-else-draw-eq0 : goal.returns-else-draw-eq0
 unfolding kind_of
-returns-else-first-eq0 c = let a = c.args in let v = drawn 0 15 (moved a.state.now) in let e : eqb v 0 ≡ false = ne_eqb v 0 (λ z. c.if-first-eq0.false (c.draw-first.ensures.is ∙ z)) in record { is = rw e refl; known = c.requires; state = c.draw-first.ensures.state }
+returns-else-draw-eq0 c = let a = c.args in let v = drawn 0 15 (moved a.state.now) in let e : eqb v 0 ≡ false = ne_eqb v 0 (λ z. c.if-draw-eq0.false (c.draw.ensures.is ∙ z)) in record { is = rw e refl; known = c.requires; state = c.draw.ensures.state }

@@ -1,56 +1,43 @@
 use mathlib.Core.Bool.{true}
-use mathlib.Core.Path.{◌∙◌}
+use mathlib.Core.Path.{sym, subst}
 use native.Mathlib.Omega.{arith}
-use Rattle.rules.specs.Memory.{Lent, Carried}
-use Rattle.refusals.specs.Lending.{lending, carrying}
-use Rattle.walks.specs.Walking.{Works, Given}
-use Rattle.walks.proofs.HoldLaws.{after, Same, works_bare, works_full, given_after, handed, good_round, fits_round, carried_round, descend_dives}
+use Rattle.rules.specs.Memory.{Lent, Carried, plan_in, state_in}
+use Rattle.rules.specs.Plan.{leg_in}
+use Rattle.rules.specs.Search.{shaken}
+use Rattle.walks.specs.Walking.{Works, Given, Shook}
+use Rattle.walks.specs.Standing.{lent_in, bare_in, carried_in}
+use Rattle.walks.proofs.HoldLaws.{same_lent, idle_is, works_bare, works_full, given_after, descend_dives}
 use Rattle.walks.proofs.DiveLaws.{dives}
 use Rattle.walks.proofs.turns.kick_and_descend.Goals as goal
 
-pub choose_kind-this-requires : goal.choose_kind-this-requires
-choose_kind-this-requires c = c.requires.kind_bound
+pub kick_on-kicked-requires-clause-works : goal.kick_on-kicked-requires-clause-works
+kick_on-kicked-requires-clause-works c =
+    let a = c.args in
+    subst (Works (bare_in a.plan.now.matrix a.work.now)) (sym (idle_is a.time c.requires.idle)) (works_bare (lent_in a.plan.now a.work.now) _ c.requires.works)
 
-pub kick_on-at-requires : goal.kick_on-at-requires
-kick_on-at-requires c = let a = c.args in
-    let l : Lent = lending a.n a.k a.ka a.matrix.now a.near.now a.alpha.now a.round.now a.places.now a.queue.now a.flags.now a.scratch.now a.journal.now in record { works = works_bare l (carrying 0 0 0 a.time) c.requires.works; held_in_bounds = omega (arith, c.requires.works.desk.room); kind_bound = c.choose_kind-this.ensures.known }
+pub kick_on-kicked-requires-clause-room : goal.kick_on-kicked-requires-clause-room
+kick_on-kicked-requires-clause-room c = omega (arith, c.requires.works.desk.room, c.requires.idle.none_held)
+
+pub kick_on-kicked-requires-clause-kind_low : goal.kick_on-kicked-requires-clause-kind_low
+kick_on-kicked-requires-clause-kind_low c = c.choose_kind-this.ensures.known
 
 pub descend-requires : goal.descend-requires
-descend-requires c = let a = c.args in
-    let l : Lent = lending a.n a.k a.ka a.matrix.now a.near.now a.alpha.now a.round.now a.places.now a.queue.now a.flags.now a.scratch.now a.journal.now in
-    let y = c.kick_on-at.result in
-    let e : Same l c.kick_on-at.new.round c.kick_on-at.new.places c.kick_on-at.new.queue c.kick_on-at.new.flags c.kick_on-at.new.scratch c.kick_on-at.new.journal = record { round_same = c.kick_on-at.auto.round; places_same = c.kick_on-at.auto.places; queue_same = c.kick_on-at.auto.queue; flags_same = c.kick_on-at.auto.flags; scratch_same = c.kick_on-at.auto.scratch; journal_same = c.kick_on-at.auto.journal } in
-    let m : Lent = after l c.kick_on-at.new.round c.kick_on-at.new.places c.kick_on-at.new.queue c.kick_on-at.new.flags c.kick_on-at.new.scratch c.kick_on-at.new.journal in
-    let c1 : Carried = carrying y.line.head y.line.count y.held y.time in
-    let w : Works m c1 = works_full m c1 c.kick_on-at.ensures.holds.works in
-    let g : Given m = given_after l c.requires.given c.kick_on-at.new.round c.kick_on-at.new.places c.kick_on-at.new.queue c.kick_on-at.new.flags c.kick_on-at.new.scratch c.kick_on-at.new.journal in record { handed = handed m c1 w g; held_value = good_round m c1 w g; in_bounds = w.desk.room; step_bound = c.requires.step_bound; fit = fits_round m c1 w g; time_value = carried_round m c1 w g }
+unfolding plan_in
+descend-requires c =
+    let w = c.kick_on-kicked.ensures.shakes.holds.works in
+    let g = c.requires.given in
+    record { size = sym w.desk.round_long; some = g.some_near; fit = g.fits; room = w.desk.room; step_low = c.requires.step_low; time_is = w.carried }
 
-pub shape_of-round : goal.shape_of-round
-shape_of-round c = c.descend.auto.round ∙ c.kick_on-at.auto.round
-
-pub shape_of-places : goal.shape_of-places
-shape_of-places c = c.descend.auto.places ∙ c.kick_on-at.auto.places
-
-pub shape_of-queue : goal.shape_of-queue
-shape_of-queue c = c.descend.auto.queue ∙ c.kick_on-at.auto.queue
-
-pub shape_of-flags : goal.shape_of-flags
-shape_of-flags c = c.descend.auto.flags ∙ c.kick_on-at.auto.flags
-
-pub shape_of-scratch : goal.shape_of-scratch
-shape_of-scratch c = c.descend.auto.scratch ∙ c.kick_on-at.auto.scratch
-
-pub shape_of-journal : goal.shape_of-journal
-shape_of-journal c = c.descend.auto.journal ∙ c.kick_on-at.auto.journal
-
-pub returns : goal.returns
-returns c = let a = c.args in
-    let l : Lent = lending a.n a.k a.ka a.matrix.now a.near.now a.alpha.now a.round.now a.places.now a.queue.now a.flags.now a.scratch.now a.journal.now in
-    let y = c.kick_on-at.result in
-    let e : Same l c.kick_on-at.new.round c.kick_on-at.new.places c.kick_on-at.new.queue c.kick_on-at.new.flags c.kick_on-at.new.scratch c.kick_on-at.new.journal = record { round_same = c.kick_on-at.auto.round; places_same = c.kick_on-at.auto.places; queue_same = c.kick_on-at.auto.queue; flags_same = c.kick_on-at.auto.flags; scratch_same = c.kick_on-at.auto.scratch; journal_same = c.kick_on-at.auto.journal } in
-    let m : Lent = after l c.kick_on-at.new.round c.kick_on-at.new.places c.kick_on-at.new.queue c.kick_on-at.new.flags c.kick_on-at.new.scratch c.kick_on-at.new.journal in
-    let c1 : Carried = carrying y.line.head y.line.count y.held y.time in
-    let w : Works m c1 = works_full m c1 c.kick_on-at.ensures.holds.works in
-    let g : Given m = given_after l c.requires.given c.kick_on-at.new.round c.kick_on-at.new.places c.kick_on-at.new.queue c.kick_on-at.new.flags c.kick_on-at.new.scratch c.kick_on-at.new.journal in
-    let e2 : Same m c.descend.new.round c.descend.new.places c.descend.new.queue c.descend.new.flags c.descend.new.scratch c.descend.new.journal = record { round_same = c.descend.auto.round; places_same = c.descend.auto.places; queue_same = c.descend.auto.queue; flags_same = c.descend.auto.flags; scratch_same = c.descend.auto.scratch; journal_same = c.descend.auto.journal } in
-    dives l a.time c.requires.works a.kind a.state.now c.choose_kind-this.ensures c.kick_on-at.new.round c.kick_on-at.new.places c.kick_on-at.new.queue c.kick_on-at.new.flags c.kick_on-at.new.scratch c.kick_on-at.new.journal e c.kick_on-at.ensures a.step a.left (descend_dives m c1 w g c.descend.new.round c.descend.new.places c.descend.new.queue c.descend.new.flags c.descend.new.scratch c.descend.new.journal e2 a.step true a.left c.descend.ensures c.kick_on-at.new.state)
+pub returns-clause-dives : goal.returns-clause-dives
+returns-clause-dives c =
+    let a = c.args in
+    let p = a.plan.now in
+    let l : Lent = lent_in p a.work.now in
+    let k = c.kick_on-kicked in
+    let b = k.new.work in
+    let m : Lent = lent_in p b in
+    let c1 : Carried = carried_in b k.result in
+    let w : Works m c1 = works_full m c1 k.ensures.shakes.holds.works in
+    let g : Given m = given_after l c.requires.given _ _ _ _ _ _ in
+    let s = subst (λ (d : Carried). Shook (shaken (leg_in l.n l.matrix) 1 c.choose_kind-this.result (state_in (bare_in p.matrix a.work.now) d) c.choose_kind-this.new.state) (bare_in p.matrix b) c1 k.new.state) (idle_is a.time c.requires.idle) k.ensures.shakes in
+    dives l a.time c.requires.works a.kind a.state.now c.choose_kind-this.ensures _ _ _ _ _ _ (same_lent p k.ensures.same) s a.step a.left (descend_dives m c1 w g _ _ _ _ _ _ (same_lent p c.descend.ensures.same) a.step true a.left c.descend.ensures.descended k.new.state)

@@ -1,51 +1,29 @@
-use mathlib.Core.Path.{sym, ◌∙◌}
-use Rattle.rules.specs.Memory.{Lent, Carried}
-use Rattle.refusals.specs.Lending.{lending, carrying}
-use Rattle.walks.specs.Walking.{Tally, tallying}
-use Rattle.walks.proofs.HoldLaws.{after, given_after, good_round}
+use mathlib.Core.List.{List}
+use mathlib.Core.Path.{sym, subst, ◌∙◌}
+use Prim.Native.Nat.{ℕ}
+use Rattle.walks.specs.Walking.{Goes}
+use Rattle.walks.specs.Standing.{lent_in, tally_in, kicked_from}
+use Rattle.walks.proofs.HoldLaws.{after}
 use Rattle.walks.proofs.JudgeLaws.{turn_goes}
 use Rattle.walks.proofs.turns.kick_turn.Goals as goal
 
-pub kick_and_descend-d-requires : goal.kick_and_descend-d-requires
-kick_and_descend-d-requires c = record { works = c.requires.rests.works; given = c.requires.rests.given; step_bound = c.requires.step_bound; kind_bound = c.requires.kind_bound }
+pub judge-requires-clause-best_fits : goal.judge-requires-clause-best_fits
+judge-requires-clause-best_fits c = c.requires.rests.best_long ∙ sym c.kick_and_descend-dived.ensures.dives.holds.works.desk.round_long
 
-pub judge-requires : goal.judge-requires
-judge-requires c = let a = c.args in
-    let l : Lent = lending a.n a.k a.ka a.matrix.now a.near.now a.alpha.now a.round.now a.places.now a.queue.now a.flags.now a.scratch.now a.journal.now in
-    let t : Tally = tallying a.t.time a.t.best a.t.walk a.t.stale a.t.fails a.t.kicks a.t.left in
-    let y = c.kick_and_descend-d.result in
-    let m : Lent = after l c.kick_and_descend-d.new.round c.kick_and_descend-d.new.places c.kick_and_descend-d.new.queue c.kick_and_descend-d.new.flags c.kick_and_descend-d.new.scratch c.kick_and_descend-d.new.journal in
-    let c1 : Carried = carrying y.line.head y.line.count y.held y.time in
-    let w = c.kick_and_descend-d.ensures.holds.works in record { tied = w.tied; scratch_len = w.desk.scratch_long ∙ sym w.desk.round_long; held_value = good_round m c1 w (given_after l c.requires.rests.given c.kick_and_descend-d.new.round c.kick_and_descend-d.new.places c.kick_and_descend-d.new.queue c.kick_and_descend-d.new.flags c.kick_and_descend-d.new.scratch c.kick_and_descend-d.new.journal); best_len = c.requires.rests.best_long ∙ sym w.desk.round_long; stale_bound = c.requires.stale_bound }
+pub returns-clause-idle : goal.returns-clause-idle
+returns-clause-idle c =
+    let d = c.kick_and_descend-dived.ensures.dives in
+    record { none_held = c.judge.ensures.none_held; nobody = d.count_is; begins = d.head_is }
 
-pub shape_of-round : goal.shape_of-round
-shape_of-round c = c.judge.auto.round ∙ c.kick_and_descend-d.auto.round
-
-pub shape_of-places : goal.shape_of-places
-shape_of-places c = c.judge.auto.places ∙ c.kick_and_descend-d.auto.places
-
-pub shape_of-queue : goal.shape_of-queue
-shape_of-queue c = c.kick_and_descend-d.auto.queue
-
-pub shape_of-flags : goal.shape_of-flags
-shape_of-flags c = c.kick_and_descend-d.auto.flags
-
-pub shape_of-scratch : goal.shape_of-scratch
-shape_of-scratch c = c.judge.auto.scratch ∙ c.kick_and_descend-d.auto.scratch
-
-pub shape_of-journal : goal.shape_of-journal
-shape_of-journal c = c.kick_and_descend-d.auto.journal
-
-pub shape_of-best : goal.shape_of-best
-shape_of-best c = c.judge.auto.best
-
-pub returns : goal.returns
-returns c = let a = c.args in
-    let l : Lent = lending a.n a.k a.ka a.matrix.now a.near.now a.alpha.now a.round.now a.places.now a.queue.now a.flags.now a.scratch.now a.journal.now in
-    let t : Tally = tallying a.t.time a.t.best a.t.walk a.t.stale a.t.fails a.t.kicks a.t.left in
-    let y = c.kick_and_descend-d.result in
-    let m : Lent = after l c.kick_and_descend-d.new.round c.kick_and_descend-d.new.places c.kick_and_descend-d.new.queue c.kick_and_descend-d.new.flags c.kick_and_descend-d.new.scratch c.kick_and_descend-d.new.journal in
-    let c1 : Carried = carrying y.line.head y.line.count y.held y.time in
-    let w = c.kick_and_descend-d.ensures.holds.works in
-    let u = c.judge.result in
-    turn_goes l a.best.now t c.requires.rests a.step a.kind a.slack a.state.now c.kick_and_descend-d.new.round c.kick_and_descend-d.new.places c.kick_and_descend-d.new.queue c.kick_and_descend-d.new.flags c.kick_and_descend-d.new.scratch c.kick_and_descend-d.new.journal c.kick_and_descend-d.ensures c.judge.new.round c.judge.new.places c.judge.new.scratch c.judge.new.best (tallying u.time u.best u.walk u.stale u.fails u.kicks u.left) c.judge.auto.round c.judge.auto.places c.judge.auto.scratch c.judge.ensures
+pub returns-clause-goes : goal.returns-clause-goes
+returns-clause-goes c =
+    let a = c.args in
+    let p = a.plan.now in
+    let l = lent_in p a.work.now in
+    let d = c.kick_and_descend-dived in
+    let b = d.new.work in
+    let j = c.judge in
+    let u = j.new.track in
+    let es = b.track.now.tied.same in
+    subst (λ (ws : List ℕ). Goes (kicked_from p a.step a.kind a.slack a.work.now a.best.now a.t a.state.now) (after l u.stops.now u.places.now b.queue.now.words.now b.queue.now.flags.now j.new.scratch ws) j.new.best (tally_in j.result) d.new.state) (sym j.ensures.words)
+    (turn_goes l a.best.now (tally_in a.t) c.requires.rests a.step a.kind a.slack a.state.now _ _ _ _ _ _ d.ensures.dives u.stops.now u.places.now j.new.scratch j.new.best (tally_in j.result) j.ensures.same.size (u.tied.same ∙ j.ensures.same.size ∙ sym es) j.auto.scratch j.ensures.judges)

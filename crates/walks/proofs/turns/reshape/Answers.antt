@@ -1,46 +1,39 @@
-use mathlib.Core.Path.{refl, sym, ◌∙◌}
-use Rattle.rules.specs.Memory.{Lent}
+use Prim.Native.Nat.{ℕ}
+use mathlib.Core.List.{[]}
+use mathlib.Core.Path.{refl, sym, ap, subst, ◌∙◌}
+use native.Mathlib.Omega.{arith}
+use Rattle.rules.specs.Memory.{Lent, Carried, state_in}
+use Rattle.rules.specs.Plan.{leg_in}
+use Rattle.rules.specs.Queue.{flags_of}
+use Rattle.rules.specs.Search.{shaken}
 use Rattle.laws.proofs.PermLaws.{perm_round}
-use Rattle.refusals.specs.Lending.{carrying}
-use Rattle.walks.specs.Walking.{bare, Works}
-use Rattle.walks.proofs.HoldLaws.{Same, desk_after}
-use Rattle.walks.proofs.RestartLaws.{lies_works, lies_shook}
+use Rattle.queue.specs.Lines.{InLine}
+use Rattle.walks.specs.Walking.{bare, Shook}
+use Rattle.walks.specs.Standing.{bare_in, carried_in}
+use Rattle.walks.proofs.HoldLaws.{idle_is, desk_after}
+use Rattle.walks.proofs.RestartLaws.{none_wait, lies_works, lies_shook}
 use Rattle.walks.proofs.turns.reshape.Goals as goal
 
-pub load_round-time-requires : goal.load_round-time-requires
-load_round-time-requires c = let e = c.requires.best_len in
-    let d = c.requires.desk in record { square = rw e d.square; start_value = perm_round c.args.best.now c.requires.perm; round_len = d.round_long ∙ sym e; places_len = d.places_long ∙ sym e; flags_len = d.flags_long ∙ sym e }
+pub load_round-time-requires-clause-is_round : goal.load_round-time-requires-clause-is_round
+load_round-time-requires-clause-is_round c = perm_round c.args.best.now c.requires.perm
 
-pub shake-requires : goal.shake-requires
-shake-requires c = let a = c.args in
-    let l : Lent = bare a.n a.matrix.now a.round.now a.places.now a.queue.now a.flags.now a.scratch.now a.journal.now in
-    let m : Lent = bare a.n a.matrix.now c.load_round-time.new.round c.load_round-time.new.places a.queue.now c.load_round-time.new.flags a.scratch.now a.journal.now in
-    let e : Same l c.load_round-time.new.round c.load_round-time.new.places a.queue.now c.load_round-time.new.flags a.scratch.now a.journal.now = record { round_same = c.load_round-time.auto.round; places_same = c.load_round-time.auto.places; queue_same = refl; flags_same = c.load_round-time.auto.flags; scratch_same = refl; journal_same = refl } in
-    let w : Works m (carrying 0 0 0 c.load_round-time.result) = lies_works m (desk_after l c.requires.desk c.load_round-time.new.round c.load_round-time.new.places a.queue.now c.load_round-time.new.flags a.scratch.now a.journal.now e) a.best.now c.load_round-time.result c.requires.best_len c.load_round-time.ensures in
-    w
+pub invariant_of-queue : goal.invariant_of-queue
+invariant_of-queue c =
+    let q = c.args.work.now.queue.now in
+    let d = c.requires.desk in
+    let f = c.load_round-time.new.flags in
+    let l = none_wait q.words.now f c.args.matrix.now.n (omega (arith, d.two, d.queue_long)) q.in_line.few d.queue_long (c.load_round-time.ensures.flags_are ∙ ap (λ (m : ℕ). flags_of m []) c.requires.best_fits) in
+    record { in_line = subst (λ (h : ℕ). InLine q.words.now f h q.count) (sym c.requires.idle.begins) (subst (InLine q.words.now f 0) (sym c.requires.idle.nobody) l) }
 
-pub shape_of-round : goal.shape_of-round
-shape_of-round c = c.shake.auto.round ∙ c.load_round-time.auto.round
-
-pub shape_of-places : goal.shape_of-places
-shape_of-places c = c.shake.auto.places ∙ c.load_round-time.auto.places
-
-pub shape_of-queue : goal.shape_of-queue
-shape_of-queue c = c.shake.auto.queue
-
-pub shape_of-flags : goal.shape_of-flags
-shape_of-flags c = c.shake.auto.flags ∙ c.load_round-time.auto.flags
-
-pub shape_of-scratch : goal.shape_of-scratch
-shape_of-scratch c = c.shake.auto.scratch
-
-pub shape_of-journal : goal.shape_of-journal
-shape_of-journal c = c.shake.auto.journal
-
-pub returns : goal.returns
-returns c = let a = c.args in
-    let l : Lent = bare a.n a.matrix.now a.round.now a.places.now a.queue.now a.flags.now a.scratch.now a.journal.now in
-    let m : Lent = bare a.n a.matrix.now c.load_round-time.new.round c.load_round-time.new.places a.queue.now c.load_round-time.new.flags a.scratch.now a.journal.now in
-    let e : Same l c.load_round-time.new.round c.load_round-time.new.places a.queue.now c.load_round-time.new.flags a.scratch.now a.journal.now = record { round_same = c.load_round-time.auto.round; places_same = c.load_round-time.auto.places; queue_same = refl; flags_same = c.load_round-time.auto.flags; scratch_same = refl; journal_same = refl } in
-    let w : Works m (carrying 0 0 0 c.load_round-time.result) = lies_works m (desk_after l c.requires.desk c.load_round-time.new.round c.load_round-time.new.places a.queue.now c.load_round-time.new.flags a.scratch.now a.journal.now e) a.best.now c.load_round-time.result c.requires.best_len c.load_round-time.ensures in
-    lies_shook m c.load_round-time.result w a.best.now c.load_round-time.ensures.laid.round_is a.state.now c.shake.ensures
+pub returns-clause-shook : goal.returns-clause-shook
+returns-clause-shook c =
+    let a = c.args in
+    let m = a.matrix.now in
+    let w = a.work.now in
+    let z = c.load_round-time in
+    let l : Lent = bare m.n m.times.now z.new.round z.new.places w.queue.now.words.now z.new.flags w.scratch.now w.track.now.journal.now in
+    let d = desk_after (bare_in m w) c.requires.desk z.new.round z.new.places w.queue.now.words.now z.new.flags w.scratch.now w.track.now.journal.now (record { round_same = z.auto.round; places_same = z.auto.places; queue_same = refl; flags_same = z.auto.flags; scratch_same = refl; journal_same = refl }) in
+    let k = c.shake in
+    let b = k.new.work in
+    lies_shook l z.result (lies_works l d a.best.now z.result c.requires.best_fits z.ensures) a.best.now z.ensures.laid.round_is a.state.now
+    (subst (λ (x : Carried). Shook (shaken (leg_in m.n m.times.now) 32 0 (state_in l x) a.state.now) (bare_in m b) (carried_in b k.result) k.new.state) (idle_is {w = w} z.result c.requires.idle) k.ensures.shakes)
