@@ -1,6 +1,6 @@
 -- What a kick's kind says of its number.
 use Prim.Native.Nat.{ℕ, zero, suc, ◌≤◌}
-use mathlib.Core.Path.{◌≡◌, refl, sym, ◌∙◌}
+use mathlib.Core.Path.{◌≡◌, refl, ap, ◌∙◌}
 use mathlib.Core.Bool.{false}
 use native.Mathlib.Omega.{arith}
 use lib.Dec.{eqb}
@@ -16,6 +16,10 @@ kind_number zero h = refl
 kind_number (suc zero) h = refl
 kind_number (suc (suc zero)) h = refl
 kind_number (suc (suc (suc k))) h = absurd (omega arith)
+
+-- and so is one of a kind that was read
+pub kind_read : (kind : KickKind) (k : ℕ) → kind ≡ kick_kind_in k → k ≤ 2 → kick_number kind ≡ k
+kind_read kind k e h = ap kick_number e ∙ kind_number k h
 
 pub number_most : (k : KickKind) → kick_number k ≤ 2
 number_most Bridge = omega arith
