@@ -19,6 +19,7 @@ use descent::{Descent, descend};
 use draws::draw;
 use journal::track::Track;
 use kicks::kick;
+use kicks::kinds::KickKind;
 use legs::matrix::Matrix;
 use legs::plan::Plan;
 use loads::load_round;
@@ -40,7 +41,7 @@ fn kick_on(matrix: &Matrix, work: &mut Work, state: &mut u64, time: u32, kind: u
     ensures same { SameWork work.old work.new }
     ensures shakes { Shakes matrix.now 1 kind work.old time state.old work.new result state.new }
 {
-    let done = kick(matrix, work, state, kind);
+    let done = kick(matrix, work, state, KickKind::of(kind));
     time + done.added - done.removed
 }
 
