@@ -68,7 +68,14 @@ pub fn take_step(plan: &Plan, work: &mut Work, step: StepKind) -> u32
 }
 
 // Takes stops until the descent ends; a committed one empties the journal before each stop and on leaving.
-pub fn run(plan: &Plan, work: &mut Work, step: StepKind, keeps: bool, budget: u32, time: u32) -> Descent
+pub fn run(
+    plan: &Plan,
+    work: &mut Work,
+    step: StepKind,
+    keeps: bool,
+    budget: u32,
+    time: u32,
+) -> Descent
     requires size { plan.now.matrix.n ≡ length work.old.track.now.stops.now }
     requires some { 1 ≤ plan.now.near.count }
     requires fit { Fit (plan_in plan.now) plan.now.matrix.n }
