@@ -15,6 +15,7 @@ ghost use Rattle.walks.specs.Standing.{lent_in, bare_in, carried_in, tally_in, I
 
 use crate::rounds::{keep_best, settle};
 use crate::tallies::{Tally, carried, counted, lesser, restart_after};
+use descent::kinds::StepKind;
 use descent::{Descent, descend};
 use draws::draw;
 use journal::track::Track;
@@ -65,7 +66,7 @@ fn kick_and_descend(
 {
     let this = choose_kind(state, kind);
     let kicked = kick_on(&plan.matrix, work, state, time, this);
-    descend(plan, work, step, true, left, kicked)
+    descend(plan, work, StepKind::of(step), true, left, kicked)
 }
 
 // Records, the best round, and acceptance within the margin of the walk's record: commit, or the round given back.
@@ -177,7 +178,7 @@ fn restart(
     ensures goes { GoesOn (restarted_from plan.now step work.old best.old t state.old) plan.now work.new best.new result state.new }
 {
     let shaken = reshape(&plan.matrix, work, best, state);
-    let dived = descend(plan, work, step, false, t.left, shaken);
+    let dived = descend(plan, work, StepKind::of(step), false, t.left, shaken);
     let track = &mut *work.track;
     let stops = &mut *track.stops;
     keep_best(dived.time < t.best, stops, best);
