@@ -1,5 +1,5 @@
 use mathlib.Core.Bool.{false}
-use mathlib.Core.Path.{◌≡◌, refl, sym, ◌∙◌}
+use mathlib.Core.Path.{◌≡◌, refl, sym, ap, ◌∙◌}
 use Rattle.rules.specs.Memory.{Lent, Carried, plan_in}
 use Rattle.descent.specs.Kinds.{step_number}
 use Rattle.descent.proofs.KindLaws.{step_number_in}
