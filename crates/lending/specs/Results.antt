@@ -1,5 +1,5 @@
 -- The results of a call. Assumes nothing.
-use Rattle.std.specs.Prelude.{ℕ, List, ◌≡◌, pos, take, min}
+use Rattle.std.specs.Prelude.{ℕ, List, ◌≡◌, pos, take, min, vec_len}
 use Rattle.lending.specs.declared.memory.TheConstants.{STOPS}
 use Rattle.lending.specs.declared.memory.Work.{Work}
 use Rattle.lending.specs.declared.session.Lengths.{Lengths}
@@ -22,6 +22,15 @@ pub record IsFresh (session : Session) : Type 0 where
   pub time : session.state.time ≡ 0
   pub round : session.lengths.round ≡ session.n
   pub places : session.lengths.places ≡ session.n
+
+-- what calls write has as many words in each slice as what is kept of it
+pub record HasSameSizes (kept work : Work) : Type 0 where
+  pub round : vec_len kept.round ≡ vec_len work.round
+  pub places : vec_len kept.places ≡ vec_len work.places
+  pub queue : vec_len kept.queue ≡ vec_len work.queue
+  pub flags : vec_len kept.flags ≡ vec_len work.flags
+  pub scratch : vec_len kept.scratch ≡ vec_len work.scratch
+  pub journal : vec_len kept.journal ≡ vec_len work.journal
 
 -- what calls write holds the same words as what was kept of it
 pub record HasSameWords (work kept : Work) : Type 0 where

@@ -1,6 +1,8 @@
 // The memory that calls are lent, from the start of each slice as much as the session says. It is on the heap: no crate but the program
-// `replay` and its library of calls stands on it. Each slice keeps its whole length, since what lies beyond what is lent stays for later.
-ghost use Rattle.std.specs.Prelude.{◌≡◌, take, replicate, vec_len, IfOk};
+// `replay` and its library of calls stands on it. All of it is there before the first record, so that no record can fail for want of memory.
+// Each slice keeps its whole length, since what lies beyond what is lent stays for later.
+ghost use Rattle.std.specs.Prelude.{◌≡◌, length, take, replicate, vec_len};
+ghost use Rattle.lending.specs.Results.{HasSameSizes, HasSameWords};
 
 use std::alloc::{AllocError, Global};
 
@@ -26,7 +28,7 @@ pub struct Plan {
 }
 
 // What a call writes.
-#[derive(Clone, PartialEq, Eq, Drop)]
+#[derive(PartialEq, Eq, Drop)]
 pub struct Work {
     pub round: Vec<u32>,
     pub places: Vec<u32>,
@@ -36,10 +38,13 @@ pub struct Work {
     pub journal: Vec<u32>,
 }
 
+// What is lent, and room for a call's start round and for what its work held before.
 #[derive(Drop)]
 pub struct Memory {
     pub plan: Plan,
     pub work: Work,
+    pub start: Vec<u32>,
+    pub kept: Work,
 }
 
 impl Memory {
@@ -50,19 +55,43 @@ impl Memory {
             near: vec![in alloc; 0; NEAR]?,
             alpha: vec![in alloc; 0; ALPHA]?,
         };
-        let work = Work {
+        let work = Work::new(alloc)?;
+        let start = vec![in alloc; 0; STOPS]?;
+        let kept = Work::new(alloc)?;
+        Ok(Memory {
+            plan,
+            work,
+            start,
+            kept,
+        })
+    }
+}
+
+impl Work {
+    // Every word is 0.
+    fn new(alloc: Global) -> Result<Work, AllocError> {
+        Ok(Work {
             round: vec![in alloc; 0; ROUND]?,
             places: vec![in alloc; 0; STOPS]?,
             queue: vec![in alloc; 0; STOPS]?,
             flags: vec![in alloc; 0; STOPS]?,
             scratch: vec![in alloc; 0; STOPS]?,
             journal: vec![in alloc; 0; JOURNAL]?,
-        };
-        Ok(Memory { plan, work })
+        })
     }
-}
 
-impl Work {
+    // Keeps the words of another, as far as there is room.
+    pub fn keep(&mut self, work: &Work)
+        ensures { HasSameSizes self.old work.now → HasSameWords self.new work.now }
+    {
+        keep(&mut self.round, &work.round);
+        keep(&mut self.places, &work.places);
+        keep(&mut self.queue, &work.queue);
+        keep(&mut self.flags, &work.flags);
+        keep(&mut self.scratch, &work.scratch);
+        keep(&mut self.journal, &work.journal);
+    }
+
     // Every word is 0.
     pub fn clear(&mut self)
         ensures round { self.new.round.items ≡ replicate (vec_len self.old.round) 0 }
@@ -79,6 +108,14 @@ impl Work {
         self.scratch.fill(0);
         self.journal.fill(0);
     }
+}
+
+// Copies words, as many as there is room for.
+fn keep<T: Copy>(kept: &mut [T], words: &[T])
+    ensures { length kept.old ≡ length words.now → kept.new ≡ words.now }
+{
+    let count = words.len().min(kept.len());
+    kept[..count].copy_from_slice(&words[..count]);
 }
 
 // As much of a slice as is lent to be read.

@@ -1,12 +1,11 @@
 // What a record sets up: the matrix, by its rule, and the lists.
-ghost use Rattle.std.specs.Prelude.{◌≡◌, ◌≤◌, IfOk};
+ghost use Rattle.std.specs.Prelude.{◌≡◌, ◌≤◌};
 ghost use Rattle.lending.specs.Results.{IsFresh};
 
 use crate::memory::{Memory, STOPS, lent_mut};
 use crate::range::Range;
 use crate::reader::Reader;
 use crate::session::{Lengths, Session, State};
-use std::alloc::{AllocError, Global};
 
 // No points are farther apart along an axis, so that a leg fits 16 bits.
 const FARTHEST: u16 = 32_767;
@@ -56,13 +55,7 @@ impl Recipe {
     }
 
     // Makes the matrix. Its cells may stand in the record; stops past the memory for points all lie at 0.
-    fn make(
-        &self,
-        alloc: Global,
-        record: &mut Reader,
-        n: usize,
-        matrix: &mut [u16],
-    ) -> Result<(), AllocError> {
+    fn make(&self, record: &mut Reader, n: usize, matrix: &mut [u16]) {
         let n = n.min(4096);
         let Recipe {
             rule,
@@ -78,12 +71,11 @@ impl Recipe {
                 put_legs(matrix, n, |_, _| range.draw(&mut state));
             }
             Rule::Points => {
-                let points = draw_points(alloc, n.min(STOPS), range, seed)?;
+                let points = draw_points(n, range, seed);
                 let point = |stop: usize| points.get(stop).copied().unwrap_or(Point::default());
                 put_legs(matrix, n, |a, b| point(a).way(point(b)));
             }
         }
-        Ok(())
     }
 }
 
@@ -124,21 +116,16 @@ fn put_legs<F: FnMut(usize, usize) -> u16>(matrix: &mut [u16], n: usize, mut leg
     }
 }
 
-// Draws points, x and y in turn.
-fn draw_points(
-    alloc: Global,
-    count: usize,
-    range: Range,
-    seed: u64,
-) -> Result<Vec<Point>, AllocError> {
+// Draws so many points, as far as there is room, x and y in turn. The others lie at 0.
+fn draw_points(count: usize, range: Range, seed: u64) -> [Point; STOPS] {
     let mut state = seed;
-    let mut points = vec![in alloc]?;
-    for _ in 0..count {
+    let mut points = [Point::default(); STOPS];
+    for point in points.iter_mut().take(count) {
         let x = range.draw(&mut state);
         let y = range.draw(&mut state);
-        points.push(Point { x, y })?;
+        *point = Point { x, y };
     }
-    Ok(points)
+    points
 }
 
 impl Session {
@@ -182,19 +169,15 @@ impl Session {
 }
 
 // Sets up what is lent, as a record says: matrix and lists, and in all else every word is 0.
-pub fn set_up(
-    alloc: Global,
-    record: &mut Reader,
-    memory: &mut Memory,
-) -> Result<Session, AllocError>
-    ensures { IfOk result IsFresh }
+pub fn set_up(record: &mut Reader, memory: &mut Memory) -> Session
+    ensures { IsFresh result }
 {
     let (session, recipe) = Session::read(record);
     let plan = &mut memory.plan;
     let matrix = lent_mut(&mut plan.matrix, session.lengths.matrix);
-    recipe.make(alloc, record, session.n, matrix)?;
+    recipe.make(record, session.n, matrix);
     record.fill(lent_mut(&mut plan.near, session.lengths.near));
     record.fill(lent_mut(&mut plan.alpha, session.lengths.alpha));
     memory.work.clear();
-    Ok(session)
+    session
 }

@@ -1,5 +1,5 @@
 // The public calls on a session's memory: the state is lent, and left in place.
-ghost use Rattle.promises.specs.Promises.{Loads, Commits, Undoes};
+ghost use Rattle.promises.specs.Promises.{Loads, Commits, Undoes, KicksOnce, Descends};
 ghost use Rattle.refusals.specs.Lending.{lending, carrying};
 
 use planner::State;
@@ -131,7 +131,7 @@ pub extern "C" fn probe_undo(
     }
 }
 
-// Kicks: the signed change in time is left in `change`. Proved safe; `planner::kick` has the promise.
+// Kicks: the signed change in time is left in `change`.
 #[unsafe(no_mangle)]
 pub extern "C" fn probe_kick(
     n: usize,
@@ -153,7 +153,9 @@ pub extern "C" fn probe_kick(
     kind: u32,
     draw: &mut u64,
     change: &mut i32,
-) -> u32 {
+) -> u32
+    ensures { KicksOnce (lending n k ka matrix.now near.now alpha.now round.old places.old queue.old flags.old scratch.old journal.old) (carrying head.old count.old held.old time.old) kind draw.old (lending n k ka matrix.now near.now alpha.now round.new places.new queue.new flags.new scratch.new journal.new) (carrying head.new count.new held.new time.new) draw.new result change.new }
+{
     let state = State {
         head: *head,
         count: *count,
@@ -179,8 +181,7 @@ pub extern "C" fn probe_kick(
     }
 }
 
-// Descends: what the time fell by, the stops taken and how it ended are left in `gain`, `units` and `ended`. Proved safe; `planner::descend` has
-// the promise.
+// Descends: what the time fell by, the stops taken and how it ended are left in `gain`, `units` and `ended`.
 #[unsafe(no_mangle)]
 pub extern "C" fn probe_descend(
     n: usize,
@@ -205,7 +206,9 @@ pub extern "C" fn probe_descend(
     gain: &mut u32,
     units: &mut u32,
     ended: &mut u32,
-) -> u32 {
+) -> u32
+    ensures { Descends (lending n k ka matrix.now near.now alpha.now round.old places.old queue.old flags.old scratch.old journal.old) (carrying head.old count.old held.old time.old) keeps step budget (lending n k ka matrix.now near.now alpha.now round.new places.new queue.new flags.new scratch.new journal.new) (carrying head.new count.new held.new time.new) result gain.new units.new ended.new }
+{
     let state = State {
         head: *head,
         count: *count,

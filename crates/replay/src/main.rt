@@ -31,7 +31,7 @@ const TABLE: usize = 24_576;
 enum Kind {
     Start,
     Exact,
-    Session(records::Kind),
+    Session,
 }
 
 impl Kind {
@@ -40,7 +40,7 @@ impl Kind {
         match number {
             1 => Some(Kind::Start),
             2 => Some(Kind::Exact),
-            _ => records::Kind::from_number(number).map(Kind::Session),
+            _ => records::Kind::from_number(number).map(|_| Kind::Session),
         }
     }
 }
@@ -83,14 +83,8 @@ impl Replay {
                 let agreed = exact_case(record, &mut plan.matrix, &mut self.table, &mut work.round);
                 self.tallies.count(rt, Answer::Exact, agreed, self.records)
             }
-            Some(Kind::Session(kind)) => {
-                let met = records::follow(
-                    self.alloc,
-                    &mut self.session,
-                    &mut self.memory,
-                    kind,
-                    record,
-                )?;
+            Some(Kind::Session) => {
+                let met = records::follow(&mut self.session, &mut self.memory, number, record);
                 match met {
                     Some(met) => {
                         self.tallies

@@ -1,13 +1,11 @@
 // One call over lent memory, as a record tells it, and whether it gave what the oracle answered.
-ghost use Rattle.std.specs.Prelude.{OnOk};
 ghost use Rattle.sessions.specs.Records.{MovesOn};
 
-use lending::memory::{Memory, STOPS, lent, lent_mut};
+use lending::memory::{Memory, Plan, STOPS, Work, lent, lent_mut};
 use lending::reader::Reader;
 use lending::session::{Session, State};
 use lending::told::{Call, Outcome, Told};
 use numbers::Refusal;
-use std::alloc::{AllocError, Global};
 
 // The state that a call is handed.
 fn handed(state: State) -> planner::State {
@@ -38,8 +36,8 @@ fn settled(answer: Result<planner::State, Refusal>, came: planner::State, draw: 
     }
 }
 
-// Makes a call over as much of the memory as is lent.
-fn make(call: Call, session: &Session, start: &[u32], memory: &mut Memory) -> Outcome {
+// Makes a call over as much of plan and work as is lent.
+fn make(call: Call, session: &Session, start: &[u32], plan: &Plan, work: &mut Work) -> Outcome {
     let Session {
         n,
         k,
@@ -47,11 +45,9 @@ fn make(call: Call, session: &Session, start: &[u32], memory: &mut Memory) -> Ou
         lengths,
         state,
     } = *session;
-    let plan = &memory.plan;
     let matrix = lent(&plan.matrix, lengths.matrix);
     let near = lent(&plan.near, lengths.near);
     let alpha = lent(&plan.alpha, lengths.alpha);
-    let work = &mut memory.work;
     let round = lent_mut(&mut work.round, lengths.round.min(STOPS));
     let places = lent_mut(&mut work.places, lengths.places);
     let queue = lent_mut(&mut work.queue, lengths.queue);
@@ -127,24 +123,19 @@ pub struct Met {
 }
 
 // Makes a record's call, compares, and moves the session on. A load's start round stands in the record.
-pub fn meet(
-    alloc: Global,
-    session: &mut Session,
-    record: &mut Reader,
-    memory: &mut Memory,
-) -> Result<Met, AllocError>
-    ensures { OnOk result (MovesOn session.old session.new) }
+pub fn meet(session: &mut Session, record: &mut Reader, memory: &mut Memory) -> Met
+    ensures { MovesOn session.old session.new }
 {
     let told = Told::read(record);
-    let mut start = vec![in alloc; 0u32; told.starts.min(STOPS)]?;
-    record.fill(&mut start);
-    let kept = memory.work.clone()?;
-    let given = make(told.call, session, &start, memory);
-    let agreed = given.agrees(&told.answer, record, session, &memory.work, &kept);
+    let start = lent_mut(&mut memory.start, told.starts.min(STOPS));
+    record.fill(start);
+    memory.kept.keep(&memory.work);
+    let given = make(told.call, session, start, &memory.plan, &mut memory.work);
+    let agreed = given.agrees(&told.answer, record, session, &memory.work, &memory.kept);
     session.state = given.state;
-    Ok(Met {
+    Met {
         call: told.call,
         refused: told.answer.number != 0,
         agreed,
-    })
+    }
 }

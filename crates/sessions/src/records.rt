@@ -1,5 +1,5 @@
 // The records of a session: one sets up what is lent, others damage it or call.
-ghost use Rattle.std.specs.Prelude.{◌≡◌, ◌≢◌, IfOk, IfSome, IsNone, IsSome};
+ghost use Rattle.std.specs.Prelude.{◌≡◌, ◌≢◌, IfSome, IsNone, IsSome};
 ghost use Rattle.sessions.specs.Records.{kind_number};
 
 use crate::calls::{Met, meet};
@@ -8,7 +8,6 @@ use lending::memory::Memory;
 use lending::plan::set_up;
 use lending::reader::Reader;
 use lending::session::Session;
-use std::alloc::{AllocError, Global};
 
 // The kinds of records.
 #[derive(Clone, Copy, PartialEq, Eq)]
@@ -33,29 +32,23 @@ impl Kind {
     }
 }
 
-// Does what a record of a session says. A call is made and compared, and it says how that went.
-pub fn follow(
-    alloc: Global,
-    session: &mut Session,
-    memory: &mut Memory,
-    kind: Kind,
-    record: &[u8],
-) -> Result<Option<Met>, AllocError>
-    ensures call { IfOk result (λ met. IsSome met → kind ≡ Kind.Call) }
-    ensures no_call { IfOk result (λ met. IsNone met → kind ≢ Kind.Call) }
+// Does what a record of a session says; one of another kind says nothing. A call is made and compared, and it says how that went.
+pub fn follow(session: &mut Session, memory: &mut Memory, kind: u8, record: &[u8]) -> Option<Met>
+    ensures call { IsSome result → kind ≡ kind_number Kind.Call }
+    ensures no_call { IsNone result → kind ≢ kind_number Kind.Call }
 {
     let mut record = Reader::new(record);
-    match kind {
+    match Kind::from_number(kind)? {
         Kind::SetUp => {
-            *session = set_up(alloc, &mut record, memory)?;
-            Ok(None)
+            *session = set_up(&mut record, memory);
+            None
         }
         Kind::Damage => {
             if let Some(damage) = Damage::read(&mut record) {
                 damage.apply(session, memory);
             }
-            Ok(None)
+            None
         }
-        Kind::Call => Ok(Some(meet(alloc, session, &mut record, memory)?)),
+        Kind::Call => Some(meet(session, &mut record, memory)),
     }
 }
