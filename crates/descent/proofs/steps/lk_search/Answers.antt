@@ -10,6 +10,6 @@ returns-in-Lk-clause-stepped c =
     let p = plan_in c.args.plan.now in
     rw c.in-Lk.is (stepped_more (c.lk_from.ensures.stepped p.ka p.alpha) (omega arith))
 
-pub returns-in-Lk3-Lk3Only-clause-stepped : goal.returns-in-Lk3-Lk3Only-clause-stepped
-returns-in-Lk3-Lk3Only-clause-stepped c =
-    stepped_is (lk3_is (plan_in c.args.plan.now) c.args.v.0 (track_in c.args.work.now.track.now) c.in-Lk3-Lk3Only.is) c.lk3_from.ensures.stepped
+pub returns-in-Lk3-clause-stepped : goal.returns-in-Lk3-clause-stepped
+returns-in-Lk3-clause-stepped c =
+    stepped_is (lk3_is (plan_in c.args.plan.now) c.args.v.0 (track_in c.args.work.now.track.now) c.in-Lk3.is) c.lk3_from.ensures.stepped
