@@ -1,9 +1,7 @@
 -- What a kick's kind says of its number.
 use Prim.Native.Nat.{ℕ, zero, suc, ◌≤◌}
 use mathlib.Core.Path.{◌≡◌, refl, ap, ◌∙◌}
-use mathlib.Core.Bool.{false}
 use native.Mathlib.Omega.{arith}
-use lib.Dec.{eqb}
 use Rattle.rules.specs.Kicks.{kind_at}
 use Rattle.laws.proofs.KickKindLaws.{kind_stays}
 use Rattle.kicks.specs.declared.kinds.KickKind.{KickKind}
@@ -30,12 +28,6 @@ pub global_number : (k : KickKind) → kick_number k ≡ 2 → k ≡ Global
 global_number Bridge e = absurd (omega arith)
 global_number Swap e = absurd (omega arith)
 global_number Global e = refl
-
--- only a kick of segments X Y Z draws a middle length
-pub not_bridge : (k : KickKind) → (k ≡ Bridge → ⊥) → eqb (kick_number k) 0 ≡ false
-not_bridge Bridge h = absurd (h refl)
-not_bridge Swap h = refl
-not_bridge Global h = refl
 
 -- what is no global kick is a kick of segments, and the kind stays
 pub segments_stay : (n : ℕ) (kind done : KickKind) → kick_number done ≡ kind_at n (kick_number kind) → (done ≡ Global → ⊥)

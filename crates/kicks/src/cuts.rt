@@ -42,14 +42,14 @@ pub fn kind_at(n: usize, kind: KickKind) -> KickKind
 }
 
 // The length of Y: none in a swap kick, and none is drawn.
-#[tactic(auto, using(crate::proofs::KindLaws::not_bridge))]
 fn draw_middle(state: &mut u64, kind: KickKind, high: u32) -> u32
     requires { 1 ≤ high }
     ensures { Middle (kick_number kind) high state.old state.new result }
 {
-    match kind {
-        KickKind::Bridge => draw(state, 1, high),
-        _ => 0,
+    if kind == KickKind::Bridge {
+        draw(state, 1, high)
+    } else {
+        0
     }
 }
 

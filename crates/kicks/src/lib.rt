@@ -124,7 +124,6 @@ pub fn global_kick(matrix: &Matrix, work: &mut Work, state: &mut u64) -> Kicked
 }
 
 // A kick of the kind that is asked, or a global one where a segment is too short.
-#[tactic(auto, using(crate::proofs::KindLaws::segments_stay))]
 pub fn kick(matrix: &Matrix, work: &mut Work, state: &mut u64, kind: KickKind) -> Kicked
     requires ready { Ready 30 matrix.now work.old }
     ensures same { SameWork work.old work.new }

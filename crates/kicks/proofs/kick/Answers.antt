@@ -19,6 +19,12 @@ returns-in-Global-clause-kicked c =
     let two : kind_at a.matrix.now.n (kick_number a.kind) ≡ 2 = sym c.kind_at.ensures ∙ ap kick_number c.in-Global.is in
     rw (kick_global (legs_in a.matrix.now) (kick_number a.kind) a.state.now (track_in t) (rw c.requires.ready.size at two)) c.global_kick.ensures.kicked
 
+pub draw_cut-cut-requires-clause-kind_bound : goal.draw_cut-cut-requires-clause-kind_bound
+draw_cut-cut-requires-clause-kind_bound c = (segments_stay c.args.matrix.now.n c.args.kind _ c.kind_at.ensures c.in_default.not-Global).0
+
+pub draw_cut-cut-requires-clause-kind_value : goal.draw_cut-cut-requires-clause-kind_value
+draw_cut-cut-requires-clause-kind_value c = (segments_stay c.args.matrix.now.n c.args.kind _ c.kind_at.ensures c.in_default.not-Global).1
+
 pub returns-in_default-clause-kicked : goal.returns-in_default-clause-kicked
 unfolding track_of
 returns-in_default-clause-kicked c =

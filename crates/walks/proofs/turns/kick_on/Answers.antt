@@ -5,10 +5,10 @@ use Rattle.walks.specs.Standing.{bare_in, carried_in}
 use Rattle.walks.proofs.HoldLaws.{same_bare, time_small, kick_counts, kick_shook}
 use Rattle.walks.proofs.turns.kick_on.Goals as goal
 
-pub kick-done-requires-clause-ready : goal.kick-done-requires-clause-ready
-kick-done-requires-clause-ready c =
+pub kick-done-requires : goal.kick-done-requires
+kick-done-requires c =
     let d = c.requires.works.desk in
-    record { two = omega (arith, d.two, d.round_long); size = sym d.round_long; room = c.requires.room }
+    record { ready = record { two = omega (arith, d.two, d.round_long); size = sym d.round_long; room = c.requires.room } }
 
 pub overflow_add-result : goal.overflow_add-result
 overflow_add-result c =
