@@ -249,7 +249,8 @@ pub fn kick<'a>(
     })
 }
 
-// Takes stops from the queue and makes the step, of a kind that is a number as a kick's is, from each, while some wait, a unit is left and a kept descent has room.
+// Takes stops from the queue and makes the step from each, while some wait, a unit is left and a kept descent has room. The kind is a number, as
+// a kick's is.
 pub fn descend<'a>(
     n: usize,
     k: usize,
