@@ -1,2 +1,3 @@
 pub mod Descents
 pub mod Handed
+pub mod Kinds

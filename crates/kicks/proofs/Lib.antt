@@ -4,5 +4,6 @@ mod EndsLaws
 mod ExchangeLaws
 mod GlobalLaws
 mod KickingLaws
+pub mod KindLaws
 mod PartLaws
 mod ShuffleLaws

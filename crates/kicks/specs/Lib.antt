@@ -1,3 +1,4 @@
 pub mod Exchanging
 pub mod Drawing
 pub mod Kicking
+pub mod Kinds

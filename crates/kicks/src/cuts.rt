@@ -2,7 +2,9 @@
 ghost use Rattle.std.specs.Prelude.{◌≡◌, ◌≤◌};
 ghost use Rattle.rules.specs.Kicks.{kind_at as kind_at_of};
 ghost use Rattle.kicks.specs.Drawing.{Longest, Middle, CutDrawn, BridgeDrawn};
+ghost use Rattle.kicks.specs.Kinds.{kick_number};
 
+use crate::kinds::KickKind;
 use draws::draw;
 use legs::Place;
 
@@ -27,29 +29,37 @@ fn longest(n: usize) -> u32
 
 // The kind that is carried out: where a segment is too short, a global kick.
 #[tactic(auto, unfolding(rules::specs::Kicks::kind_at))]
-pub fn kind_at(n: usize, kind: u32) -> u32
+pub fn kind_at(n: usize, kind: KickKind) -> KickKind
     requires le_n { 2 ≤ n }
     requires n_bound { n ≤ 4096 }
-    ensures { result ≡ kind_at_of n kind }
+    ensures { kick_number result ≡ kind_at_of n (kick_number kind) }
 {
-    if longest(n) < 2 { 2 } else { kind }
+    if longest(n) < 2 {
+        KickKind::Global
+    } else {
+        kind
+    }
 }
 
 // The length of Y: none in a swap kick, and none is drawn.
-fn draw_middle(state: &mut u64, kind: u32, high: u32) -> u32
+fn draw_middle(state: &mut u64, kind: KickKind, high: u32) -> u32
     requires { 1 ≤ high }
-    ensures { Middle kind high state.old state.new result }
+    ensures { Middle (kick_number kind) high state.old state.new result }
 {
-    if kind == 0 { draw(state, 1, high) } else { 0 }
+    if kind == KickKind::Bridge {
+        draw(state, 1, high)
+    } else {
+        0
+    }
 }
 
 // Draws a segment kick: a, b, c, start.
-pub fn draw_cut(state: &mut u64, n: usize, kind: u32) -> Cut
+pub fn draw_cut(state: &mut u64, n: usize, kind: KickKind) -> Cut
     requires le_n { 2 ≤ n }
     requires n_bound { n ≤ 4096 }
-    requires kind_bound { kind ≤ 1 }
-    requires kind_value { kind_at_of n kind ≡ kind }
-    ensures { CutDrawn n kind state.old state.new result }
+    requires kind_bound { kick_number kind ≤ 1 }
+    requires kind_value { kind_at_of n (kick_number kind) ≡ kick_number kind }
+    ensures { CutDrawn n (kick_number kind) state.old state.new result }
 {
     let high = longest(n);
     let a = draw(state, 1, high);

@@ -8,9 +8,11 @@ ghost use Rattle.journal.specs.Tracks.{track_in};
 ghost use Rattle.work.specs.Works.{SameWork};
 ghost use Rattle.kicks.specs.Exchanging.{Segments, exchanging};
 ghost use Rattle.kicks.specs.Kicking.{legs_in, Ready, MadeOn, KicksOn, shuffle_drawn, window_drawn, global_drawn};
+ghost use Rattle.kicks.specs.Kinds.{kick_number};
 
 use crate::cuts::{Cut, draw_bridge, draw_cut, kind_at};
 use crate::ends::Ends;
+use crate::kinds::KickKind;
 use crate::shuffles::shuffle;
 use draws::draw;
 use legs::Place;
@@ -21,6 +23,7 @@ use work::work::Work;
 
 pub mod cuts;
 pub mod ends;
+pub mod kinds;
 pub mod shuffles;
 
 // What a kick did: the time of the legs that came and of those that went.
@@ -120,19 +123,19 @@ pub fn global_kick(matrix: &Matrix, work: &mut Work, state: &mut u64) -> Kicked
     }
 }
 
-// A kick: 0 segments X Y Z, 1 segments X Z, 2 global; a number, as the planner is told it.
-#[tactic(auto, using(laws::proofs::KickKindLaws::kind_stays))]
-pub fn kick(matrix: &Matrix, work: &mut Work, state: &mut u64, kind: u32) -> Kicked
+// A kick of the kind that is asked, or a global one where a segment is too short.
+pub fn kick(matrix: &Matrix, work: &mut Work, state: &mut u64, kind: KickKind) -> Kicked
     requires ready { Ready 30 matrix.now work.old }
-    requires kind_bound { kind ≤ 2 }
     ensures same { SameWork work.old work.new }
-    ensures kicked { KicksOn (kick_of (legs_in matrix.now) kind state.old (track_in work.old.track.now)) state.old 30 35 work.old work.new result state.new }
+    ensures kicked { KicksOn (kick_of (legs_in matrix.now) (kick_number kind) state.old (track_in work.old.track.now)) state.old 30 35 work.old work.new result state.new }
 {
-    if kind_at(matrix.n, kind) == 2 {
-        return global_kick(matrix, work, state);
+    match kind_at(matrix.n, kind) {
+        KickKind::Global => global_kick(matrix, work, state),
+        _ => {
+            let cut = draw_cut(state, matrix.n, kind);
+            exchange(matrix, work, cut, false)
+        }
     }
-    let cut = draw_cut(state, matrix.n, kind);
-    exchange(matrix, work, cut, false)
 }
 
 // The signed change in time that a kick reports.

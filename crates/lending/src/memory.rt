@@ -1,5 +1,5 @@
 // The memory that calls are lent, from the start of each slice as much as the session says. It is on the heap: no crate but the program
-// `replay` and its library of calls stands on it. All of it is there before the first record, so that no record can fail for want of memory.
+// `replay` and its library of calls stands on it. All of it is there before the first record, so that none fails for want of it later.
 // Each slice keeps its whole length, since what lies beyond what is lent stays for later.
 ghost use Rattle.std.specs.Prelude.{◌≡◌, length, take, replicate, vec_len};
 ghost use Rattle.lending.specs.Results.{HasSameSizes, HasSameWords};

@@ -1,5 +1,5 @@
 -- The step from t1: its first level, and the two sides of t1.
-use Prim.Native.Nat.{ℕ, ◌+◌, ◌*◌, ◌≤◌, ◌<◌}
+use Prim.Native.Nat.{ℕ, ◌+◌, ◌*◌, ◌≤◌}
 use mathlib.Core.Path.{◌≡◌, sym, ap, ◌∙◌}
 use mathlib.Core.Bool.{Bool}
 use mathlib.Core.List.{List, [], ◌∷◌}
@@ -21,20 +21,9 @@ use Rattle.improve.specs.Steps.{Stepped, Steps}
 use Rattle.improve.proofs.StepLaws.{pushed}
 use Rattle.lk_state.specs.declared.LkState.{LkState}
 use Rattle.lk_state.specs.States.{step_of, Begun}
-use Rattle.lk3.specs.Levels.{Stacked, found_at}
+use Rattle.lk3.specs.Levels.{found_at}
 
 -- ---- the first level
-pub stacked_begun : {t1 t2 : Stop} {st : LkState} (n : ℕ) → t2 < n → Begun t1 t2 st → Stacked n 0 st
-stacked_begun n h b =
-    record {
-      room = b.room;
-      steps_are = omega (arith, b.steps_none);
-      added_are = omega (arith, b.added_none);
-      removed_are = omega (arith, b.removed_one);
-      stepping = record { third = λ i hi. absurd (omega (arith, b.steps_none)); fourth = λ i hi. absurd (omega (arith, b.steps_none)) };
-      first_low = omega (arith, b.first_is);
-    }
-
 pub side_is : (p : Plan) (t1 : Stop) (fwd : Bool) (t : Track) (t2 : Stop) (g : Time) (st : LkState) → Begun t1 t2 st → t2 ≡ ahead fwd t.round t1 → g ≡ leg_of p t1 t2 → lk3_side p t1 fwd t ≡ found_at p t1 st t t2 g 0
 unfolding lk3_side found_at
 side_is p t1 fwd t t2 g st b e f =

@@ -25,7 +25,7 @@ use Rattle.moves.specs.Moves.{Made, case_of}
 use Rattle.improve.specs.Steps.{trial_of, Stepped}
 use Rattle.improve.proofs.StepLaws.{ends_two, ends_three}
 use Rattle.lk_state.specs.declared.LkState.{LkState}
-use Rattle.lk_state.specs.Stacks.{legs_in, stops_in, Stepping}
+use Rattle.lk_state.specs.Stacks.{legs_in, stops_in}
 use Rattle.lk_state.specs.States.{step_of}
 use Rattle.tries.specs.Picks.{pick}
 use Rattle.seeks.specs.Seeks.{Sought, sought, move_trial}
@@ -44,10 +44,6 @@ module _ (q : List Stop) (t1 first : Stop) (steps : List ℕ) (len c : ℕ) (t3 
 
   pub queued_three : c ≢ 1 → push_all (push_all (push_all (push_all q (t1 ∷ first ∷ [])) (stops_in steps len)) (t3 ∷ t4 ∷ [])) (t5 ∷ t6 ∷ []) ≡ push_all q (queued_by t1 first steps len c t3 t4 t5 t6)
   queued_three n = sym (push_all_join (push_all (push_all q (t1 ∷ first ∷ [])) (stops_in steps len)) (t3 ∷ t4 ∷ []) (t5 ∷ t6 ∷ [])) ∙ joined (t3 ∷ t4 ∷ t5 ∷ t6 ∷ []) (ends_three c t3 t4 t5 t6 n)
-
--- the same steps, of as many stops
-pub stepping_at : (ws : List ℕ) (len n n' : ℕ) → n ≡ n' → Stepping ws len n → Stepping ws len n'
-stepping_at ws len n n' e s = rw e at s
 
 -- ---- what a level finds
 module _ (p : Plan) (t1 : Stop) (st : LkState) (t : Track) (t2 : Stop) (g : Time) (level : ℕ) where

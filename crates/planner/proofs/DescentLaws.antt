@@ -11,10 +11,10 @@ use lib.Dec.{leb, eqb}
 use lib.ListN.{length, take}
 use Rattle.rules.specs.Words.{Stop, Time}
 use Rattle.rules.specs.Lists.{when◌then◌else◌}
-use Rattle.rules.specs.Ring.{places_of, recount}
+use Rattle.rules.specs.Ring.{places_of}
 use Rattle.rules.specs.Queue.{waiting, flags_of, push_all}
-use Rattle.rules.specs.Journal.{Track, track_of, entries_of, good_journal}
-use Rattle.rules.specs.Plan.{Plan, leg_in}
+use Rattle.rules.specs.Journal.{Track, track_of, entries_of}
+use Rattle.rules.specs.Plan.{Plan}
 use Rattle.rules.specs.State.{State}
 use Rattle.rules.specs.Descend.{Manner, kept, committed, Ran, step_from, short, journalled, leave, descending, descend}
 use Rattle.rules.specs.Memory.{Lent, Carried, room_in, plan_in, state_in, words_left, Leaves}

@@ -5,6 +5,7 @@ use Rattle.rules.specs.Memory.{Carried}
 use Rattle.numbers.specs.declared.Refusal.{Refusal}
 use Rattle.refusals.specs.declared.lent.State.{State}
 use Rattle.refusals.specs.Lents.{carried_in}
+use Rattle.descent.specs.Kinds.{ended_number}
 use Rattle.planner.specs.declared.Kicked.{Kicked}
 use Rattle.planner.specs.declared.Descended.{Descended}
 
@@ -36,5 +37,5 @@ units_by (Ok d) = d.units
 units_by (Err r) = 0
 
 abbrev pub ended_by : Result Descended Refusal → ℕ
-ended_by (Ok d) = d.ended
+ended_by (Ok d) = ended_number d.ended
 ended_by (Err r) = 0

@@ -11,7 +11,9 @@ ghost use Rattle.refusals.specs.Lents.{carried_in};
 ghost use Rattle.planner.specs.Answers.{left_by, kicked_by, change_by, descended_by, gain_by, units_by, ended_by};
 
 use crate::works::{descend_on, kick_on, undo_on};
+use descent::kinds::{Ending, StepKind};
 use journal::track::Track;
+use kicks::kinds::KickKind;
 use legs::lists::Lists;
 use legs::matrix::Matrix;
 use legs::plan::Plan;
@@ -37,7 +39,7 @@ pub struct Descended {
     pub state: State,
     pub gain: u32,
     pub units: u32,
-    pub ended: u32,
+    pub ended: Ending,
 }
 
 // The state that load and undo leave: nobody waits, the queue begins at 0, and no entry is held.
@@ -179,7 +181,7 @@ pub fn undo<'a>(
     Ok(after)
 }
 
-// Moves stops as the draws say.
+// Moves stops as the draws say. The kind is a number, since one that is no kind is refused.
 pub fn kick<'a>(
     n: usize,
     k: usize,
@@ -227,7 +229,14 @@ pub fn kick<'a>(
         head: state.head,
         count: state.count,
     };
-    let legs = kick_on(&matrix, &mut track, &mut line, scratch, draw, kind);
+    let legs = kick_on(
+        &matrix,
+        &mut track,
+        &mut line,
+        scratch,
+        draw,
+        KickKind::of(kind),
+    );
     let higher = state.time + legs.added;
     Ok(Kicked {
         state: State {
@@ -240,7 +249,8 @@ pub fn kick<'a>(
     })
 }
 
-// Takes stops from the queue and makes the step from each, while some wait, a unit is left and a kept descent has room.
+// Takes stops from the queue and makes the step from each, while some wait, a unit is left and a kept descent has room. The kind is a number, as
+// a kick's is.
 pub fn descend<'a>(
     n: usize,
     k: usize,
@@ -306,7 +316,14 @@ pub fn descend<'a>(
         count: state.count,
     };
     let d = descend_on(
-        &plan, &mut track, &mut line, scratch, step, keeps, budget, state.time,
+        &plan,
+        &mut track,
+        &mut line,
+        scratch,
+        StepKind::of(step),
+        keeps,
+        budget,
+        state.time,
     );
     Ok(Descended {
         state: State {

@@ -11,11 +11,15 @@ ghost use Rattle.journal.specs.Tracks.{SameTrack, track_in};
 ghost use Rattle.queue.specs.Queues.{SameQueue};
 ghost use Rattle.loads.specs.Lying.{Lies};
 ghost use Rattle.kicks.specs.Kicking.{legs_in};
+ghost use Rattle.kicks.specs.Kinds.{kick_number};
+ghost use Rattle.descent.specs.Kinds.{step_number, ended_number};
 ghost use Rattle.descent.specs.Handed.{manner_of};
 ghost use Rattle.planner.specs.Works.{KicksBy, DescendsBy, room_by, state_by};
 
+use descent::kinds::StepKind;
 use descent::{Descent, descend};
 use journal::track::Track;
+use kicks::kinds::KickKind;
 use kicks::{Kicked, kick};
 use legs::matrix::Matrix;
 use legs::plan::Plan;
@@ -54,17 +58,16 @@ pub fn kick_on<'b, 'a>(
     queue: &'b mut Queue<'a>,
     scratch: &'b mut [u32],
     draw: &mut u64,
-    kind: u32,
+    kind: KickKind,
 ) -> Kicked
     requires size { matrix.now.n ≡ length track.old.stops.now }
     requires two { 2 ≤ length track.old.stops.now }
     requires room { 5 * (track.old.held + 30) ≤ length track.old.journal.now }
     requires queue_fits { length queue.old.words.now ≡ length track.old.stops.now }
     requires scratch_fits { length scratch.old ≡ length track.old.stops.now }
-    requires kind_low { kind ≤ 2 }
     ensures same_track { SameTrack track.old track.new }
     ensures same_queue { SameQueue queue.old queue.new }
-    ensures kicked { KicksBy (kick_of (legs_in matrix.now) kind draw.old (track_in track.old)) draw.old track.old queue.old track.new queue.new result draw.new }
+    ensures kicked { KicksBy (kick_of (legs_in matrix.now) (kick_number kind) draw.old (track_in track.old)) draw.old track.old queue.old track.new queue.new result draw.new }
 {
     let mut work = Work {
         track,
@@ -80,7 +83,7 @@ pub fn descend_on<'b, 'a>(
     track: &'b mut Track<'a>,
     queue: &'b mut Queue<'a>,
     scratch: &'b mut [u32],
-    step: u32,
+    step: StepKind,
     keeps: bool,
     budget: u32,
     time: u32,
@@ -91,11 +94,10 @@ pub fn descend_on<'b, 'a>(
     requires room { 2560 ≤ length track.old.journal.now }
     requires queue_fits { length queue.old.words.now ≡ length track.old.stops.now }
     requires scratch_fits { length scratch.old ≡ length track.old.stops.now }
-    requires step_low { step ≤ 2 }
     requires time_is { time ≡ recount (leg_in plan.now.matrix.n plan.now.matrix.times.now) track.old.stops.now }
     ensures same_track { SameTrack track.old track.new }
     ensures same_queue { SameQueue queue.old queue.new }
-    ensures descended { DescendsBy (descend_of (plan_in plan.now) step (manner_of keeps (room_by track.old)) budget (state_by track.old queue.old time)) keeps track.old track.new queue.new result.time result.left result.ended }
+    ensures descended { DescendsBy (descend_of (plan_in plan.now) (step_number step) (manner_of keeps (room_by track.old)) budget (state_by track.old queue.old time)) keeps track.old track.new queue.new result.time result.left (ended_number result.ended) }
 {
     let mut work = Work {
         track,

@@ -222,7 +222,7 @@ pub extern "C" fn probe_descend(
         Ok(descent) => {
             *gain = descent.gain;
             *units = descent.units;
-            *ended = descent.ended;
+            *ended = descent.ended.number();
             *head = descent.state.head;
             *count = descent.state.count;
             *held = descent.state.held;

@@ -81,11 +81,12 @@ pub fn seek_one(
 {
     let d61 = plan.dist(mv.t6, t1);
     if d61 < mv.gain {
-        let mut out = mv;
-        out.gain = mv.gain - d61;
         return Sought {
             closed: true,
-            mv: out,
+            mv: Move {
+                gain: mv.gain - d61,
+                ..mv
+            },
         };
     }
     if goes_on(plan, st, deeper, t2, mv, best.gain) {

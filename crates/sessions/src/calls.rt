@@ -91,7 +91,7 @@ fn make(call: Call, session: &Session, start: &[u32], plan: &Plan, work: &mut Wo
                 Ok(descended) => Outcome {
                     gain: descended.gain,
                     units: descended.units,
-                    ended: descended.ended,
+                    ended: descended.ended.number(),
                     ..Outcome::settled(0, left(descended.state, draw))
                 },
                 Err(refusal) => settled(Err(refusal), state, draw),

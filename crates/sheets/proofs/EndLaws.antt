@@ -1,5 +1,5 @@
 -- 10: the length of a sheet, and the spare bits at its end.
-use Prim.Native.Nat.{ℕ, ◌+◌, ◌*◌, ◌/◌, ◌%◌, ◌≤◌, ◌<◌}
+use Prim.Native.Nat.{ℕ, ◌+◌, ◌-◌, ◌*◌, ◌/◌, ◌%◌, ◌≤◌, ◌<◌}
 use mathlib.Core.Path.{◌≡◌, refl, ap, ◌∙◌}
 use mathlib.Core.Bool.{true, false, ◌&&◌, ◌||◌}
 use mathlib.Core.List.{List}
@@ -15,6 +15,10 @@ use Rattle.laws.proofs.BitLaws.{every_zero, are_drop, bits_of_are, length_bits_o
 use Rattle.bits.specs.Read.{Reads}
 use Rattle.bits.proofs.ReadLaws.{reads_byte, inside}
 use Rattle.sheets.specs.Sheet.{good_end}
+
+pub end_at_lem : (h : Header) (a b c : ℕ) → a ≡ h.n * (h.n - 1) → b ≡ h.n * h.k → c ≡ h.n * h.ka → 128 + 8 * a + 12 * b + 12 * c ≡ end_at h
+unfolding end_at alpha_at near_at
+end_at_lem h a b c e f g = rw (e, f, g)
 
 module _ (h : Header) (s : List ℕ) (small : (i : ℕ) → get_or s i 0 < 256) where
   fours : end_at h % 4 ≡ 0

@@ -24,7 +24,7 @@ module _ (s : List ℕ) (v b x : ℕ) (l : 16 ≤ length s) (h : Reads s 0 32 v)
   part : (r w t y : ℕ) → 32 ≡ r + w + t → y ≡ v / 2 ^ t % 2 ^ w → field (bits_of s) (0 + r) w ≡ y
   part r w t y e g = sym (inside s 0 r w t (0 + r) 32 v y (omega arith) e refl g h).is
 
-  pub read_head : Reads s 32 32 b → Reads s 64 64 x
+  pub read_masked : Reads s 32 32 b → Reads s 64 64 x
       → header_in (bits_of s)
       ≡ record {
         version = v / 268435456;
@@ -38,7 +38,7 @@ module _ (s : List ℕ) (v b x : ℕ) (l : 16 ≤ length s) (h : Reads s 0 32 v)
         seed = x;
       }
   unfolding header_in
-  read_head hb hx =
+  read_masked hb hx =
       let one : bit_and (v / 33554432) 1 < 2 = rw (and_mask (v / 33554432) 1) (mod-lt (v / 33554432) (omega arith)) in
       rw (
         part 0 4 28 (v / 268435456) refl (omega (arith, h.below)),
@@ -51,6 +51,22 @@ module _ (s : List ℕ) (v b x : ℕ) (l : 16 ≤ length s) (h : Reads s 0 32 v)
         ← hb.is,
         ← hx.is,
       )
+
+pub read_head : (s : List ℕ) (v b x : ℕ) → 16 ≤ length s → Reads s 0 32 v → Reads s 32 32 b → Reads s 64 64 x
+    → header_in (bits_of s) ≡ record { version = v / 268435456; step = v / 67108864 % 4; stop = v / 33554432 % 2; n = v / 4096 % 8192; k = v / 128 % 32; ka = v / 16 % 8; spare = v % 16; budget = b; seed = x }
+unfolding header_in
+read_head s v b x l h hb hx =
+    rw (
+      part s v b x l h 0 4 28 (v / 268435456) refl (omega (arith, h.below)),
+      part s v b x l h 4 2 26 (v / 67108864 % 4) refl refl,
+      part s v b x l h 6 1 25 (v / 33554432 % 2) refl refl,
+      part s v b x l h 7 13 12 (v / 4096 % 8192) refl refl,
+      part s v b x l h 20 5 7 (v / 128 % 32) refl refl,
+      part s v b x l h 25 3 4 (v / 16 % 8) refl refl,
+      part s v b x l h 28 4 0 (v % 16) refl (omega arith),
+      ← hb.is,
+      ← hx.is,
+    )
 
 -- its fields are no wider than their bits
 pub header_narrow : (s : List ℕ) → 16 ≤ length s → ((header_in (bits_of s)).k < 32) × ((header_in (bits_of s)).ka < 8)

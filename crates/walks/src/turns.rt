@@ -1,5 +1,4 @@
-// The turns of a search: a kick with its kept descent, judged, or a restart from the best. The kinds of steps and kicks stay numbers, which the
-// callers of the C interface give.
+// The turns of a search: a kick with its kept descent, judged, or a restart from the best.
 ghost use Rattle.std.specs.Prelude.{◌≡◌, Bool, true, false, List, [], ℕ, ◌+◌, ◌*◌, ◌<◌, ◌≤◌, length};
 ghost use Rattle.rules.specs.Ring.{recount};
 ghost use Rattle.rules.specs.Plan.{leg_in};
@@ -8,6 +7,8 @@ ghost use Rattle.rules.specs.State.{load as load_of};
 ghost use Rattle.rules.specs.Search.{shaken};
 ghost use Rattle.laws.proofs.PermLaws.{Perm};
 ghost use Rattle.journal.specs.Tracks.{SameTrack};
+ghost use Rattle.kicks.specs.Kinds.{kick_number};
+ghost use Rattle.descent.specs.Kinds.{step_number};
 ghost use Rattle.work.specs.Works.{SameWork};
 ghost use Rattle.refusals.specs.Lending.{carrying};
 ghost use Rattle.walks.specs.Walking.{Counts, Given, Works, Rests, Chosen, Desk, Shook, Judges};
@@ -15,30 +16,34 @@ ghost use Rattle.walks.specs.Standing.{lent_in, bare_in, carried_in, tally_in, I
 
 use crate::rounds::{keep_best, settle};
 use crate::tallies::{Tally, carried, counted, lesser, restart_after};
+use descent::kinds::StepKind;
 use descent::{Descent, descend};
 use draws::draw;
 use journal::track::Track;
 use kicks::kick;
+use kicks::kinds::KickKind;
 use legs::matrix::Matrix;
 use legs::plan::Plan;
 use loads::load_round;
 use work::work::Work;
 
 // Draws the kind of a turn's kick: one in 16 is global.
-fn choose_kind(state: &mut u64, kind: u32) -> u32
-    requires { kind ≤ 2 }
-    ensures { Chosen kind state.old state.new result }
+fn choose_kind(state: &mut u64, kind: KickKind) -> KickKind
+    ensures { Chosen (kick_number kind) state.old state.new (kick_number result) }
 {
-    if draw(state, 0, 15) == 0 { 2 } else { kind }
+    if draw(state, 0, 15) == 0 {
+        KickKind::Global
+    } else {
+        kind
+    }
 }
 
 // A kick: the time with the legs that came, without those that went.
-fn kick_on(matrix: &Matrix, work: &mut Work, state: &mut u64, time: u32, kind: u32) -> u32
+fn kick_on(matrix: &Matrix, work: &mut Work, state: &mut u64, time: u32, kind: KickKind) -> u32
     requires works { Works (bare_in matrix.now work.old) (carried_in work.old time) }
     requires room { 5 * (work.old.track.now.held + 30) ≤ length work.old.track.now.journal.now }
-    requires kind_low { kind ≤ 2 }
     ensures same { SameWork work.old work.new }
-    ensures shakes { Shakes matrix.now 1 kind work.old time state.old work.new result state.new }
+    ensures shakes { Shakes matrix.now 1 (kick_number kind) work.old time state.old work.new result state.new }
 {
     let done = kick(matrix, work, state, kind);
     time + done.added - done.removed
@@ -50,17 +55,15 @@ fn kick_and_descend(
     work: &mut Work,
     state: &mut u64,
     time: u32,
-    step: u32,
-    kind: u32,
+    step: StepKind,
+    kind: KickKind,
     left: u32,
 ) -> Descent
     requires works { Works (lent_in plan.now work.old) (carrying 0 0 0 time) }
     requires given { Given (lent_in plan.now work.old) }
     requires idle { Idle work.old }
-    requires step_low { step ≤ 2 }
-    requires kind_low { kind ≤ 2 }
     ensures same { SameWork work.old work.new }
-    ensures dives { DivesOn plan.now step kind left work.old state.old work.new result.time result.left state.new }
+    ensures dives { DivesOn plan.now (step_number step) (kick_number kind) left work.old state.old work.new result.time result.left state.new }
 {
     let this = choose_kind(state, kind);
     let kicked = kick_on(&plan.matrix, work, state, time, this);
@@ -109,17 +112,15 @@ fn kick_turn(
     state: &mut u64,
     t: Tally,
     slack: u32,
-    step: u32,
-    kind: u32,
+    step: StepKind,
+    kind: KickKind,
 ) -> Tally
     requires rests { Rests (lent_in plan.now work.old) best.old t.time }
     requires idle { Idle work.old }
     requires counts_low { (t.stale < 4294967295) × ((t.fails < 4294967295) × (t.kicks < 4294967295)) }
-    requires step_low { step ≤ 2 }
-    requires kind_low { kind ≤ 2 }
     ensures same { SameWork work.old work.new }
     ensures idle { Idle work.new }
-    ensures goes { GoesOn (kicked_from plan.now step kind slack work.old best.old t state.old) plan.now work.new best.new result state.new }
+    ensures goes { GoesOn (kicked_from plan.now (step_number step) (kick_number kind) slack work.old best.old t state.old) plan.now work.new best.new result state.new }
 {
     let dived = kick_and_descend(plan, work, state, t.time, step, kind, t.left);
     let track = &mut *work.track;
@@ -136,7 +137,7 @@ fn shake(matrix: &Matrix, work: &mut Work, state: &mut u64, time: u32) -> u32
 {
     let mut shaken = time;
     for _kick in 0..32_usize {
-        shaken = kick_on(matrix, work, state, shaken, 0);
+        shaken = kick_on(matrix, work, state, shaken, KickKind::Bridge);
     }
     shaken
 }
@@ -166,14 +167,13 @@ fn restart(
     best: &mut [u32],
     state: &mut u64,
     t: Tally,
-    step: u32,
+    step: StepKind,
 ) -> Tally
     requires rests { Rests (lent_in plan.now work.old) best.old t.time }
     requires idle { Idle work.old }
-    requires step_low { step ≤ 2 }
     ensures same { SameWork work.old work.new }
     ensures idle { Idle work.new }
-    ensures goes { GoesOn (restarted_from plan.now step work.old best.old t state.old) plan.now work.new best.new result state.new }
+    ensures goes { GoesOn (restarted_from plan.now (step_number step) work.old best.old t state.old) plan.now work.new best.new result state.new }
 {
     let shaken = reshape(&plan.matrix, work, best, state);
     let dived = descend(plan, work, step, false, t.left, shaken);
@@ -199,18 +199,16 @@ pub fn turn(
     state: &mut u64,
     t: Tally,
     slack: u32,
-    step: u32,
-    kind: u32,
+    step: StepKind,
+    kind: KickKind,
 ) -> Tally
     requires rests { Rests (lent_in plan.now work.old) best.old t.time }
     requires idle { Idle work.old }
     requires counts { Counts (tally_in t) }
     requires left_nonzero { 0 < t.left }
-    requires step_low { step ≤ 2 }
-    requires kind_low { kind ≤ 2 }
     ensures same { SameWork work.old work.new }
     ensures idle { Idle work.new }
-    ensures goes { GoesOn (turned_from plan.now step kind slack work.old best.old t state.old) plan.now work.new best.new result state.new }
+    ensures goes { GoesOn (turned_from plan.now (step_number step) (kick_number kind) slack work.old best.old t state.old) plan.now work.new best.new result state.new }
 {
     if t.stale < restart_after(plan.matrix.n) {
         kick_turn(plan, work, best, state, t, slack, step, kind)

@@ -1,9 +1,11 @@
-use mathlib.Core.Path.{◌≡◌, refl, sym, ap, ◌∙◌}
+use mathlib.Core.Path.{refl, sym, ap, ◌∙◌}
 use mathlib.Core.Bool.{Bool}
 use native.Mathlib.Omega.{arith}
 use Rattle.std.proofs.lemmas.Result.{err_from_is_err_and}
 use Rattle.rules.specs.Memory.{Lent, Carried}
 use Rattle.rules.specs.Numbers.{verdict, call_checks}
+use Rattle.descent.specs.Kinds.{step_number, ended_number}
+use Rattle.descent.proofs.KindLaws.{step_number_in}
 use Rattle.numbers.proofs.RefusalLaws.{refused_some}
 use Rattle.refusals.specs.Lending.{lending, carrying}
 use Rattle.refusals.specs.Lents.{carried_in}
@@ -68,7 +70,7 @@ descend_on-d-requires c =
     let s = carried_in a.state in
     let p = call_passed l s c.step_good-told.result (sym c.in_ok-check_call.ensures) in
     let e = p.lent.round_long in
-    record { size = sym e; some = p.lent.some_near; fit = descent_fits l s c.step_good-told.result p; room = descent_room l s c.step_good-told.result p; queue_fits = p.lent.queue_long ∙ sym e; scratch_fits = p.lent.scratch_long ∙ sym e; step_low = step_good a.ka a.step (sym c.step_good-told.ensures ∙ p.lent.asked); time_is = p.time }
+    record { size = sym e; some = p.lent.some_near; fit = descent_fits l s c.step_good-told.result p; room = descent_room l s c.step_good-told.result p; queue_fits = p.lent.queue_long ∙ sym e; scratch_fits = p.lent.scratch_long ∙ sym e; time_is = p.time }
 
 pub overflow_sub-result : goal.overflow_sub-result
 overflow_sub-result c =
@@ -79,9 +81,12 @@ overflow_sub-result c =
     let u = c.descend_on-d in
     let t = u.new.track in
     let q = u.new.queue in
+    let low = step_good a.ka a.step (sym c.step_good-told.ensures ∙ p.lent.asked) in
+    let is_step = ap step_number c.of.ensures ∙ step_number_in a.step low in
+    let descended = rw is_step at u.ensures.descended in
     let after : Lent = lending a.n a.k a.ka a.matrix.now a.near.now a.alpha.now t.stops.now t.places.now q.words.now q.flags.now u.new.scratch t.journal.now in
     let new : Carried = carrying q.head q.count t.held u.result.time in
-    omega (arith, time_falls l after s new c.step_good-told.result p a.keeps a.step a.budget u.result.left u.result.ended u.ensures.same_queue.size u.ensures.descended)
+    omega (arith, time_falls l after s new c.step_good-told.result p a.keeps a.step a.budget u.result.left (ended_number u.result.ended) u.ensures.same_queue.size descended)
 
 pub overflow_sub-result-2 : goal.overflow_sub-result-2
 overflow_sub-result-2 c =
@@ -92,9 +97,12 @@ overflow_sub-result-2 c =
     let u = c.descend_on-d in
     let t = u.new.track in
     let q = u.new.queue in
+    let low = step_good a.ka a.step (sym c.step_good-told.ensures ∙ p.lent.asked) in
+    let is_step = ap step_number c.of.ensures ∙ step_number_in a.step low in
+    let descended = rw is_step at u.ensures.descended in
     let after : Lent = lending a.n a.k a.ka a.matrix.now a.near.now a.alpha.now t.stops.now t.places.now q.words.now q.flags.now u.new.scratch t.journal.now in
     let new : Carried = carrying q.head q.count t.held u.result.time in
-    omega (arith, units_left l after s new c.step_good-told.result p a.keeps a.step a.budget u.result.left u.result.ended u.ensures.same_queue.size u.ensures.descended)
+    omega (arith, units_left l after s new c.step_good-told.result p a.keeps a.step a.budget u.result.left (ended_number u.result.ended) u.ensures.same_queue.size descended)
 
 pub returns : goal.returns
 returns c =
@@ -105,6 +113,9 @@ returns c =
     let u = c.descend_on-d in
     let t = u.new.track in
     let q = u.new.queue in
+    let low = step_good a.ka a.step (sym c.step_good-told.ensures ∙ p.lent.asked) in
+    let is_step = ap step_number c.of.ensures ∙ step_number_in a.step low in
+    let descended = rw is_step at u.ensures.descended in
     let after : Lent = lending a.n a.k a.ka a.matrix.now a.near.now a.alpha.now t.stops.now t.places.now q.words.now q.flags.now u.new.scratch t.journal.now in
     let new : Carried = carrying q.head q.count t.held u.result.time in
     let same = u.ensures.same_track in
@@ -115,4 +126,4 @@ returns c =
     let words = c.queue-1.given.1.1 (sym line.same_words) in
     let flags = c.flags-1.given.1.1 (sym line.same_flags) in
     let is = c.in_ok-check_call.ensures ∙ ap (λ (t : Bool). verdict (call_checks l s t)) c.step_good-told.ensures in
-    rw (round, places, words, flags, journal) (descend_does l s a.keeps a.step a.budget 0 is refl after new u.result.left u.result.ended line.size u.ensures.descended)
+    rw (round, places, words, flags, journal) (descend_does l s a.keeps a.step a.budget 0 is refl after new u.result.left (ended_number u.result.ended) line.size descended)

@@ -7,15 +7,16 @@ use native.Mathlib.Omega.{arith}
 use Rattle.rules.specs.Kicks.{longest as longestOf}
 use Rattle.laws.proofs.KickKindLaws.{cut_drawn, cut_long}
 use borrow.Author.Rules.{rules}
+use Rattle.kicks.specs.Kinds.{kick_number}
 use Rattle.kicks.proofs.cuts.draw_cut.Goals as goal
 
 pub draw-a-requires : goal.draw-a-requires
-draw-a-requires c = omega (arith, cut_long c.args.n c.args.kind c.requires.kind_bound c.requires.kind_value, c.longest-high.ensures.is)
+draw-a-requires c = omega (arith, cut_long c.args.n (kick_number c.args.kind) c.requires.kind_bound c.requires.kind_value, c.longest-high.ensures.is)
 
 pub returns : goal.returns
 returns c =
     let n : ℕ = c.args.n in
-    let kind : ℕ = c.args.kind in
+    let kind : ℕ = kick_number c.args.kind in
     let x : ℕ = c.args.state.now in
     let x1 : ℕ = c.draw-a.new.state in
     let x2 : ℕ = c.draw_middle-b.new.state in

@@ -16,7 +16,7 @@ loop-kick-init c =
 pub kick_on-shaken-requires : goal.kick_on-shaken-requires
 kick_on-shaken-requires c =
     let p = c.loop-kick in
-    record { works = p.invariant.1.works; room = shaking_room _ _ _ _ p._kick p.invariant.1 c.loop-kick-test.true; kind_low = omega arith }
+    record { works = p.invariant.1.works; room = shaking_room _ _ _ _ p._kick p.invariant.1 c.loop-kick-test.true }
 
 pub loop-kick-preserved : goal.loop-kick-preserved
 loop-kick-preserved c =
