@@ -12,7 +12,7 @@ use legs::matrix::Matrix;
 use ring::times::cost;
 use work::work::Work;
 
-// Copies a round, and writes the place of each stop.
+// Copies a round, and writes the place of each stop. Stop by stop: a copy in one step would ask C's memmove of whoever links the library.
 fn lay(round: &mut [u32], places: &mut [u32], start: &[u32])
     requires few { length start.now ≤ 4096 }
     requires is_round { is_round (length start.now) start.now ≡ true }
@@ -20,8 +20,8 @@ fn lay(round: &mut [u32], places: &mut [u32], start: &[u32])
     requires places_fit { length places.old ≡ length start.now }
     ensures { Laid start.now round.new places.new }
 {
-    round.copy_from_slice(start);
     for (place, &stop) in start.iter().enumerate() {
+        round[place] = stop;
         places[stop as usize] = place as u32;
     }
 }
