@@ -35,14 +35,16 @@ fn cell(s: &[u8], n: usize, a: usize, b: usize) -> u16
     }
 }
 
-// The whole matrix, cell by cell. It takes bytes, as load_list does, and no Sheet: any that are long enough serve.
+// The whole matrix, row by row. It takes bytes, as load_list does, and no Sheet: any that are long enough serve.
 #[tactic(auto, using(crate::proofs::LoadLaws::matrix_filled))]
 pub fn load_matrix(s: &[u8], n: usize, m: &mut [u16])
     requires { (1 ≤ n) × (n ≤ 128) × (16 + n * (n - 1) ≤ length s.now) × (length m.old ≡ n * n) }
     ensures { m.new ≡ matrix_of n (triangle_leg n (triangle_in n s.now)) }
 {
-    for (at, leg) in m.iter_mut().enumerate() {
-        *leg = cell(s, n, at / n, at % n);
+    for a in 0..n {
+        for b in 0..n {
+            m[a * n + b] = cell(s, n, a, b);
+        }
     }
 }
 
