@@ -108,8 +108,13 @@ impl<'a> Reader<'a> {
         ensures words { (k : ℕ) (d : T) → k < length words.old → T.from_gives (half_at self.old k) (slice_index_or words.new k d) }
         ensures rest { self.new ≡ drop (2 * length words.old) self.old }
     {
-        for word in words {
+        let there = self.rest.len().div_ceil(2).min(words.len());
+        let (first, past) = words.split_at_mut(there);
+        for word in first {
             *word = T::from(self.half());
+        }
+        for past_word in past {
+            *past_word = T::from(0);
         }
     }
 
