@@ -11,7 +11,6 @@ ghost use Rattle.sheet_plan.specs.Load.{triangle_in, Loaded};
 
 use bits::read::{read12, read16};
 use sheets::sheet::Sheet;
-use std::cmp::Ordering;
 
 // The leg from a to a higher b, read off the sheet's triangle.
 #[tactic(auto, using(crate::proofs::LoadLaws::leg_is))]
@@ -28,10 +27,12 @@ fn cell(s: &[u8], n: usize, a: usize, b: usize) -> u16
     requires { (n ≤ 128) × (a < n) × (b < n) × (16 + n * (n - 1) ≤ length s.now) }
     ensures { result ≡ triangle_leg n (triangle_in n s.now) a b }
 {
-    match a.cmp(&b) {
-        Ordering::Equal => 0,
-        Ordering::Less => leg_at(s, n, a, b),
-        Ordering::Greater => leg_at(s, n, b, a),
+    if a < b {
+        leg_at(s, n, a, b)
+    } else if b < a {
+        leg_at(s, n, b, a)
+    } else {
+        0
     }
 }
 
