@@ -1,11 +1,12 @@
 -- Bytes written one after another.
-use Prim.Native.Nat.{ℕ, zero, suc, ◌+◌, ◌*◌, ◌/◌, ◌%◌, ◌^◌, ◌≤◌, ◌<◌}
+use Prim.Native.Nat.{ℕ, zero, suc, ◌+◌, ◌-◌, ◌*◌, ◌/◌, ◌%◌, ◌^◌, ◌≤◌, ◌<◌}
 use mathlib.Core.Path.{◌≡◌, refl, sym, ap, ◌∙◌}
 use mathlib.Core.List.{List, ◌++◌, append_assoc}
 use native.Mathlib.Omega.{arith}
 use native.Mathlib.Nat.{pow-suc}
 use Rattle.std.proofs.Common.{pow-add}
 use lib.ListN.{length, take, drop, length-append, length-drop}
+use borrow.Rule.Slice.PartMut.{put_mid}
 use lib.Seq.{take_at, drop-drop, drop-append-add, length-take-le}
 use Rattle.rules.specs.Bits.{bits, bytes_of}
 use Rattle.laws.proofs.BitLaws.{bytes_12, bytes_of_byte, bytes_of_none, bits_join, bits_split}
@@ -53,6 +54,28 @@ bytes_high (suc k) v =
     top : (k : ℕ) → v / 2 ^ (8 * k) % 256 ≡ byte_at k v
     top zero = omega arith
     top (suc k) = ap (λ (z : ℕ). v / z % 256) (words (suc k))
+
+-- n of a word's four bytes, the last ones, written over l
+length_high : (k v : ℕ) → length (bytes_high_first k v) ≡ k
+length_high zero v = refl
+length_high (suc k) v = ap suc (length_high k v)
+
+last_bytes : (n v : ℕ) → n ≤ 4 → take (4 - (4 - n)) (drop (4 - n) (bytes_high_first 4 v)) ≡ bytes_high_first n v
+last_bytes zero v h = refl
+last_bytes (suc zero) v h = refl
+last_bytes (suc (suc zero)) v h = refl
+last_bytes (suc (suc (suc zero))) v h = refl
+last_bytes (suc (suc (suc (suc zero)))) v h = refl
+last_bytes (suc (suc (suc (suc (suc n))))) v h = absurd (omega arith)
+
+pub wrote_last : (l : List ℕ) (at n v : ℕ) (word r : List ℕ) → n ≤ 4 → word ≡ bytes_high_first 4 v → r ≡ take (4 - (4 - n)) (drop (4 - n) word) → Wrote l at (bytes_high_first n v) (put_mid at (at + n - at) l r)
+wrote_last l at n v word r h e f =
+    let g : r ≡ bytes_high_first n v = f ∙ ap (λ (z : List ℕ). take (4 - (4 - n)) (drop (4 - n) z)) e ∙ last_bytes n v h in
+    let i : at + (at + n - at) ≡ at + length (bytes_high_first n v) = omega (arith, length_high n v) in
+    record {
+      is = ap (λ (z : List ℕ). take at l ++ (z ++ drop (at + n - at) (drop at l))) g
+          ∙ ap (λ (z : List ℕ). take at l ++ (bytes_high_first n v ++ z)) (drop-drop (at + n - at) at l ∙ ap (λ (z : ℕ). drop z l) i);
+    }
 
 pub bytes_of_16 : (v : ℕ) → bytes_of (bits 16 v) ≡ bytes_high_first 2 v
 bytes_of_16 v = bytes_high 2 v

@@ -7,7 +7,9 @@ fn bytes_at<const N: usize>(s: &[u8], q: usize) -> [u8; N]
     requires { q + N ≤ length s.now }
     ensures { result ≡ take N (drop q s.now) }
 {
-    *s[q..].first_chunk().unwrap()
+    let mut bytes = [0; N];
+    bytes.copy_from_slice(&s[q..q + N]);
+    bytes
 }
 
 // The 16 bits at byte q. There is a reader for each width, a line each: std's from_be_bytes is of no trait that one could be generic over.

@@ -3,8 +3,9 @@ ghost use Rattle.std.specs.Prelude.{◌≡◌, true, length};
 ghost use Rattle.rules.specs.SharedWords.{Tied};
 ghost use Rattle.rules.specs.Journal.{good_journal};
 
-use crate::entries::{note, take_back};
+use crate::entries::note;
 use crate::kinds::Kind;
+use crate::rollback;
 use legs::Place;
 use rewrite::{reverse_tour, rotate_segments, swap_raw};
 use ring::round::Round;
@@ -119,9 +120,6 @@ impl<'a> Track<'a> {
         let stops = &mut *self.stops;
         let places = &mut *self.places;
         let journal = &mut *self.journal;
-        for i in (mark..held).rev() {
-            take_back(stops, places, scratch, journal, i);
-        }
-        self.held = mark;
+        self.held = rollback(stops, places, scratch, journal, held, mark);
     }
 }

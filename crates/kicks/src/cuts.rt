@@ -27,18 +27,23 @@ fn longest(n: usize) -> u32
     ((n - 1) / 3).min(200) as u32
 }
 
-// The kind that is carried out: where a segment is too short, a global kick.
+// The kind that is carried out, by its number: where a segment is too short, a global kick.
 #[tactic(auto, unfolding(rules::specs::Kicks::kind_at))]
-pub fn kind_at(n: usize, kind: KickKind) -> KickKind
+pub fn kind_at(n: usize, kind: u32) -> u32
+    requires le_n { 2 ≤ n }
+    requires n_bound { n ≤ 4096 }
+    ensures { result ≡ kind_at_of n kind }
+{
+    if longest(n) < 2 { 2 } else { kind }
+}
+
+// The same of a kind that was read.
+pub fn kick_kind_at(n: usize, kind: KickKind) -> KickKind
     requires le_n { 2 ≤ n }
     requires n_bound { n ≤ 4096 }
     ensures { kick_number result ≡ kind_at_of n (kick_number kind) }
 {
-    if longest(n) < 2 {
-        KickKind::Global
-    } else {
-        kind
-    }
+    KickKind::of(kind_at(n, kind.number()))
 }
 
 // The length of Y: none in a swap kick, and none is drawn.

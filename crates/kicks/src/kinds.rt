@@ -1,6 +1,6 @@
 // The kinds of kicks.
 ghost use Rattle.std.specs.Prelude.{◌≡◌};
-ghost use Rattle.kicks.specs.Kinds.{kick_kind_in};
+ghost use Rattle.kicks.specs.Kinds.{kick_kind_in, kick_number};
 
 // What a kick does: 0 segments X Y Z, 1 segments X Z, 2 global.
 #[derive(Clone, Copy, PartialEq, Eq)]
@@ -20,5 +20,12 @@ impl KickKind {
             1 => KickKind::Swap,
             _ => KickKind::Global,
         }
+    }
+
+    // Its number.
+    pub fn number(self) -> u32
+        ensures { result ≡ kick_number self }
+    {
+        self as u32
     }
 }

@@ -10,7 +10,7 @@ ghost use Rattle.kicks.specs.Exchanging.{Segments, exchanging};
 ghost use Rattle.kicks.specs.Kicking.{legs_in, Ready, MadeOn, KicksOn, shuffle_drawn, window_drawn, global_drawn};
 ghost use Rattle.kicks.specs.Kinds.{kick_number};
 
-use crate::cuts::{Cut, draw_bridge, draw_cut, kind_at};
+use crate::cuts::{Cut, draw_bridge, draw_cut, kick_kind_at};
 use crate::ends::Ends;
 use crate::kinds::KickKind;
 use crate::shuffles::shuffle;
@@ -129,7 +129,7 @@ pub fn kick(matrix: &Matrix, work: &mut Work, state: &mut u64, kind: KickKind) -
     ensures same { SameWork work.old work.new }
     ensures kicked { KicksOn (kick_of (legs_in matrix.now) (kick_number kind) state.old (track_in work.old.track.now)) state.old 30 35 work.old work.new result state.new }
 {
-    match kind_at(matrix.n, kind) {
+    match kick_kind_at(matrix.n, kind) {
         KickKind::Global => global_kick(matrix, work, state),
         _ => {
             let cut = draw_cut(state, matrix.n, kind);

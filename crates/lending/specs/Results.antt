@@ -1,5 +1,5 @@
 -- The results of a call. Assumes nothing.
-use Rattle.std.specs.Prelude.{ℕ, List, ◌≡◌, pos, take, min, vec_len}
+use Rattle.std.specs.Prelude.{ℕ, List, ◌≡◌, ◌≤◌, ◌-◌, ◌++◌, pos, take, min, length, replicate, vec_len, vec_capacity}
 use Rattle.lending.specs.declared.memory.TheConstants.{STOPS}
 use Rattle.lending.specs.declared.memory.Work.{Work}
 use Rattle.lending.specs.declared.session.Lengths.{Lengths}
@@ -31,6 +31,19 @@ pub record HasSameSizes (kept work : Work) : Type 0 where
   pub flags : vec_len kept.flags ≡ vec_len work.flags
   pub scratch : vec_len kept.scratch ≡ vec_len work.scratch
   pub journal : vec_len kept.journal ≡ vec_len work.journal
+
+-- there is room to keep each slice of what calls write
+pub record HasRoom (kept work : Work) : Type 0 where
+  pub round : vec_len work.round ≤ vec_capacity kept.round
+  pub places : vec_len work.places ≤ vec_capacity kept.places
+  pub queue : vec_len work.queue ≤ vec_capacity kept.queue
+  pub flags : vec_len work.flags ≤ vec_capacity kept.flags
+  pub scratch : vec_len work.scratch ≤ vec_capacity kept.scratch
+  pub journal : vec_len work.journal ≤ vec_capacity kept.journal
+
+-- words that are cut to a length, or grown to it by 0
+abbrev pub fitted : ℕ → List ℕ → List ℕ
+fitted count words = take count words ++ replicate (count - length words) 0
 
 -- what calls write holds the same words as what was kept of it
 pub record HasSameWords (work kept : Work) : Type 0 where

@@ -168,6 +168,7 @@ impl Memory {
             Slice::Scratch => strike(&mut work.scratch, &mut lengths.scratch, change),
             Slice::Journal => strike(&mut work.journal, &mut lengths.journal, change),
         }
+        work.fit(lengths);
     }
 }
 

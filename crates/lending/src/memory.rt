@@ -1,9 +1,10 @@
 // The memory that calls are lent, from the start of each slice as much as the session says. It is on the heap: no crate but the program
 // `replay` and its library of calls stands on it. All of it is there before the first record, so that none fails for want of it later.
-// Each slice keeps its whole length, since what lies beyond what is lent stays for later.
-ghost use Rattle.std.specs.Prelude.{◌≡◌, length, take, replicate, vec_len};
-ghost use Rattle.lending.specs.Results.{HasSameSizes, HasSameWords};
+// What a call reads, and the round, keep their whole length. The other slices that it writes are as long as what is lent of them.
+ghost use Rattle.std.specs.Prelude.{◌≡◌, ◌≤◌, ◌-◌, ◌++◌, length, min, take, replicate, vec_len, vec_capacity};
+ghost use Rattle.lending.specs.Results.{HasRoom, HasSameSizes, HasSameWords, fitted};
 
+use crate::session::Lengths;
 use std::alloc::{AllocError, Global};
 
 // No record gets more than this of each slice.
@@ -68,21 +69,38 @@ impl Memory {
 }
 
 impl Work {
-    // Every word is 0.
+    // A round in which every word is 0, and room for the other slices, of which nothing is lent.
     fn new(alloc: Global) -> Result<Work, AllocError> {
         Ok(Work {
             round: vec![in alloc; 0; ROUND]?,
-            places: vec![in alloc; 0; STOPS]?,
-            queue: vec![in alloc; 0; STOPS]?,
-            flags: vec![in alloc; 0; STOPS]?,
-            scratch: vec![in alloc; 0; STOPS]?,
-            journal: vec![in alloc; 0; JOURNAL]?,
+            places: Vec::with_capacity(alloc, STOPS)?,
+            queue: Vec::with_capacity(alloc, STOPS)?,
+            flags: Vec::with_capacity(alloc, STOPS)?,
+            scratch: Vec::with_capacity(alloc, STOPS)?,
+            journal: Vec::with_capacity(alloc, JOURNAL)?,
         })
+    }
+
+    // Cuts and grows what is lent, as far as there is room: what is added is 0. The round stays, since cases of the start rounds use it too.
+    pub fn fit(&mut self, lengths: &Lengths)
+        ensures round { self.new.round.items ≡ self.old.round.items }
+        ensures places { self.new.places.items ≡ fitted (min lengths.now.places (vec_capacity self.old.places)) self.old.places.items }
+        ensures queue { self.new.queue.items ≡ fitted (min lengths.now.queue (vec_capacity self.old.queue)) self.old.queue.items }
+        ensures flags { self.new.flags.items ≡ fitted (min lengths.now.flags (vec_capacity self.old.flags)) self.old.flags.items }
+        ensures scratch { self.new.scratch.items ≡ fitted (min lengths.now.scratch (vec_capacity self.old.scratch)) self.old.scratch.items }
+        ensures journal { self.new.journal.items ≡ fitted (min lengths.now.journal (vec_capacity self.old.journal)) self.old.journal.items }
+    {
+        fit(&mut self.places, lengths.places, 0);
+        fit(&mut self.queue, lengths.queue, 0);
+        fit(&mut self.flags, lengths.flags, 0);
+        fit(&mut self.scratch, lengths.scratch, 0);
+        fit(&mut self.journal, lengths.journal, 0);
     }
 
     // Keeps the words of another, as far as there is room.
     pub fn keep(&mut self, work: &Work)
-        ensures { HasSameSizes self.old work.now → HasSameWords self.new work.now }
+        ensures same_sizes { HasSameSizes self.old work.now → HasSameWords self.new work.now }
+        ensures room { HasRoom self.old work.now → HasSameWords self.new work.now }
     {
         keep(&mut self.round, &work.round);
         keep(&mut self.places, &work.places);
@@ -110,12 +128,21 @@ impl Work {
     }
 }
 
-// Copies words, as many as there is room for.
-fn keep<T: Copy>(kept: &mut [T], words: &[T])
-    ensures { length kept.old ≡ length words.now → kept.new ≡ words.now }
+// Cuts words, or adds zeros as far as there is room.
+fn fit<T: Copy>(words: &mut Vec<T>, count: usize, zero: T)
+    ensures { words.new.items ≡ take (min count (vec_capacity words.old)) words.old.items ++ replicate (min count (vec_capacity words.old) - vec_len words.old) zero }
 {
-    let count = words.len().min(kept.len());
-    kept[..count].copy_from_slice(&words[..count]);
+    let count = count.min(words.capacity());
+    // It asks for no memory, so it does not fail.
+    let _ = words.resize(count, zero);
+}
+
+// Copies words. It asks for memory only where there is no room for them, and keeps none where it is refused.
+fn keep<T: Copy>(kept: &mut Vec<T>, words: &[T])
+    ensures { length words.now ≤ vec_capacity kept.old → kept.new.items ≡ words.now }
+{
+    kept.clear();
+    let _ = kept.extend_from_slice(words);
 }
 
 // As much of a slice as is lent to be read.

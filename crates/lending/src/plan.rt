@@ -178,6 +178,7 @@ pub fn set_up(record: &mut Reader, memory: &mut Memory) -> Session
     recipe.make(record, session.n, matrix);
     record.fill(lent_mut(&mut plan.near, session.lengths.near));
     record.fill(lent_mut(&mut plan.alpha, session.lengths.alpha));
+    memory.work.fit(&session.lengths);
     memory.work.clear();
     session
 }

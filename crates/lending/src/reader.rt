@@ -1,9 +1,21 @@
 // Numbers in the bytes of a record, one after another, least byte first. Bytes past the end count as 0.
-ghost use Rattle.std.specs.Prelude.{◌≡◌, ℕ, ◌*◌, ◌<◌, IsTrue, drop, length, slice_index_or};
+ghost use Rattle.std.specs.Prelude.{◌≡◌, ℕ, ◌*◌, ◌<◌, ◌≤◌, IsTrue, drop, length, slice_index_or};
 ghost use Rattle.std.specs.Int.{w8, w16, w32, w64, from_le_bytes};
 ghost use Rattle.lending.specs.Reading.{next_bytes, half_at, IsNext};
 
 use std::marker::Model;
+
+// The last bytes of a record, and 0 for each past its end. It is apart so that what reads many numbers does not take it in.
+#[cold]
+#[inline(never)]
+fn padded<const N: usize>(bytes: &[u8]) -> [u8; N]
+    requires { length bytes.now ≤ N }
+    ensures { result ≡ next_bytes N bytes.now }
+{
+    let mut padded = [0; N];
+    padded[..bytes.len()].copy_from_slice(bytes);
+    padded
+}
 
 // A record that is read: the bytes that are left of it.
 #[derive(Drop)]
@@ -32,11 +44,15 @@ impl<'a> Reader<'a> {
         ensures next { result ≡ next_bytes N self.old }
         ensures rest { self.new ≡ drop N self.old }
     {
-        let mut bytes = [0; N];
-        let count = self.rest.len().min(N);
-        let (next, rest) = self.rest.split_at(count);
-        bytes[..count].copy_from_slice(next);
-        self.rest = rest;
+        if let Some((next, rest)) = self.rest.split_first_chunk() {
+            self.rest = rest;
+            return *next;
+        }
+        if self.rest.is_empty() {
+            return [0; N];
+        }
+        let bytes = padded(self.rest);
+        self.rest = &[];
         bytes
     }
 
@@ -92,8 +108,13 @@ impl<'a> Reader<'a> {
         ensures words { (k : ℕ) (d : T) → k < length words.old → T.from_gives (half_at self.old k) (slice_index_or words.new k d) }
         ensures rest { self.new ≡ drop (2 * length words.old) self.old }
     {
-        for word in words {
+        let there = self.rest.len().div_ceil(2).min(words.len());
+        let (first, past) = words.split_at_mut(there);
+        for word in first {
             *word = T::from(self.half());
+        }
+        for past_word in past {
+            *past_word = T::from(0);
         }
     }
 

@@ -1,18 +1,20 @@
 -- A rollback of all entries is the undo of them.
 use Prim.Native.Nat.{ℕ, ◌-◌}
-use mathlib.Core.Path.{◌≡◌, sym, ap, ap₂, ◌∙◌}
+use mathlib.Core.Path.{◌≡◌, refl, sym, ap, ap₂, subst, ◌∙◌}
 use mathlib.Core.List.{List, []}
 use native.Mathlib.Omega.{arith}
 use lib.ListN.{length, take}
 use lib.Seq.{take-length}
 use Rattle.rules.specs.Words.{Place, Time, Round}
 use Rattle.rules.specs.Ring.{recount}
-use Rattle.rules.specs.Queue.{flags_of}
+use Rattle.rules.specs.Lists.{tally}
+use Rattle.rules.specs.Queue.{waiting, flags_of}
 use Rattle.rules.specs.Plan.{leg_in}
 use Rattle.rules.specs.Journal.{Track, Entry, track_of, entries_of, undo_all, rollback}
+use Rattle.rules.specs.SharedWords.{Tied}
 use Rattle.laws.proofs.JournalLaws.{undo_all_length}
 use Rattle.ring.specs.Legs.{IsTime}
-use Rattle.queue.specs.Lines.{Waits}
+use Rattle.queue.specs.Lines.{InLine, Waits}
 use Rattle.journal.specs.Journalled.{Back}
 use Rattle.loads.specs.Lying.{Laid, Lies}
 
@@ -38,4 +40,26 @@ undone_lies matrix es r round places queue flags head count time long l w t =
       laid = l;
       flags_are = w.line.agreed ∙ ap₂ flags_of (long ∙ sym (undo_all_length es r)) w.is;
       takes = rw l.round_is at t;
+    }
+
+-- what was laid is tied where it lies
+pub laid_tied : {r round : Round} {places : List Place} → Laid r round places → Tied round places
+laid_tied {places = places} l = subst (λ (u : Round). Tied u places) (sym l.round_is) l.tied
+
+-- those who waited do so no more
+pub undone_nobody : (es : List Entry) (r : Round) (queue flags flags' : List ℕ) (head : Place) (count : ℕ)
+    → InLine queue flags head count → length queue ≡ length r → flags' ≡ flags_of (length (undo_all es r)) [] → Waits [] 0 queue flags' 0 0
+unfolding waiting tally
+undone_nobody es r queue flags flags' head count i long e =
+    record {
+      is = refl;
+      head_is = refl;
+      line = record {
+        few = i.few;
+        start = omega (arith, i.start);
+        room = omega arith;
+        stops = record { below = λ k h. absurd (omega arith) };
+        single = λ v. omega arith;
+        agreed = e ∙ ap (λ (m : ℕ). flags_of m []) (undo_all_length es r ∙ sym long);
+      };
     }

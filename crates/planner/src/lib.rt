@@ -24,7 +24,7 @@ use refusals::asked::step_good;
 use refusals::lent::Lent;
 pub use refusals::lent::State;
 
-pub mod works;
+mod works;
 
 // What a kick gives: the state, and the signed change in time.
 #[derive(Clone, Copy)]

@@ -1,6 +1,7 @@
 // The stops that wait: a ring of n words with a head and a count, and a flag for each stop.
 ghost use Rattle.queue.specs.Lines.{InLine};
 
+use crate::{Line, clear_queue, pop_front};
 use legs::Stop;
 use ring::places::{next, wrap};
 
@@ -46,13 +47,16 @@ impl<'a> Queue<'a> {
         ensures words { self.new.words.now ≡ self.old.words.now }
         ensures took { Took self.old.words.now self.old.flags.now self.old.head self.old.count result.0 self.new.flags.now self.new.head self.new.count }
     {
+        let line = Line {
+            head: self.head,
+            count: self.count,
+        };
         let words = &mut *self.words;
         let flags = &mut *self.flags;
-        let v = words[self.head];
-        flags[v as usize] = 0;
-        self.head = next(self.head, words.len());
-        self.count -= 1;
-        Stop(v)
+        let taken = pop_front(words, flags, line);
+        self.head = taken.line.head;
+        self.count = taken.line.count;
+        taken.stop
     }
 
     // Nobody waits any more, and the queue begins at 0.
@@ -61,10 +65,15 @@ impl<'a> Queue<'a> {
         ensures words { self.new.words.now ≡ self.old.words.now }
         ensures waits { Queued [] 0 self.new }
     {
-        while 0 < self.count {
-            self.pop_front();
-        }
-        self.head = 0;
+        let line = Line {
+            head: self.head,
+            count: self.count,
+        };
+        let words = &mut *self.words;
+        let flags = &mut *self.flags;
+        let cleared = clear_queue(words, flags, line);
+        self.head = cleared.head;
+        self.count = cleared.count;
     }
 
     // Pushes the stops of a list, in order: those of a round, where every stop is to wait.

@@ -2,9 +2,7 @@
 ghost use Rattle.std.specs.Prelude.{◌≡◌};
 
 use crate::asked::kick_good;
-use crate::even::symmetric;
-use crate::lists::list_good;
-use crate::sizes::{all_long, check_sizes, plan_long};
+use crate::parts::check_by_lengths;
 use checks::{is_round, journal_good, queue_good, round_good, time_good};
 use legs::matrix::Matrix;
 use numbers::Refusal;
@@ -36,19 +34,16 @@ pub struct State {
 }
 
 impl<'a> Lent<'a> {
-    ghost use Rattle.std.specs.Prelude.{◌≡◌, Bool, true, List, [], ◌∷◌, ℕ, ◌*◌, ◌≤◌, length};
+    ghost use Rattle.std.specs.Prelude.{◌≡◌, [], ◌∷◌, length};
     ghost use Rattle.rules.specs.Numbers.{verdict, call_checks, kick_number, load_number};
     ghost use Rattle.rules.specs.SharedWords.{Square};
     ghost use Rattle.numbers.specs.Numbers.{number_in};
-    ghost use Rattle.refusals.specs.Refusing.{length_checks, list_checks, lent_number, state_good as state_good_of};
+    ghost use Rattle.refusals.specs.Refusing.{lent_number, state_good as state_good_of};
     ghost use Rattle.refusals.specs.Lents.{lent_in, carried_in};
 
-    // 3 and 4: a lent length is not what n, k and ka say, or the journal has too little room. `more` is the length of what else is lent.
-    fn check_lengths(&self, more: usize) -> Result<(), Refusal>
-        requires n_bound { self.now.n ≤ 4096 }
-        requires k_bound { self.now.k ≤ 20 }
-        requires ka_bound { self.now.ka ≤ 5 }
-        ensures { number_in result ≡ verdict (length_checks self.now.n self.now.k self.now.ka (length self.now.matrix.now) (length self.now.near.now) (length self.now.alpha.now) (length self.now.round.now ∷ length self.now.places.now ∷ length self.now.queue.now ∷ length self.now.flags.now ∷ length self.now.scratch.now ∷ more ∷ []) (length self.now.journal.now)) }
+    // 1 to 6. `more` is the length of what else is lent, `told` what else 2 asks.
+    pub fn check_lent(&self, more: usize, told: bool) -> Result<(), Refusal>
+        ensures { number_in result ≡ lent_number self.now.n self.now.k self.now.ka self.now.matrix.now self.now.near.now self.now.alpha.now (length self.now.round.now ∷ length self.now.places.now ∷ length self.now.queue.now ∷ length self.now.flags.now ∷ length self.now.scratch.now ∷ more ∷ []) (length self.now.journal.now) told }
     {
         let lengths = [
             self.round.len(),
@@ -58,56 +53,17 @@ impl<'a> Lent<'a> {
             self.scratch.len(),
             more,
         ];
-        let plan = plan_long(
+        check_by_lengths(
             self.n,
             self.k,
             self.ka,
-            self.matrix.len(),
-            self.near.len(),
-            self.alpha.len(),
-        );
-        if !plan {
-            return Err(Refusal::Length);
-        }
-        if !all_long(self.n, &lengths) {
-            return Err(Refusal::Length);
-        }
-        if self.journal.len() / 5 < 512 {
-            return Err(Refusal::Room);
-        }
-        Ok(())
-    }
-
-    // 5 and 6: the matrix is not symmetric, or a list holds what is no other stop.
-    fn check_lists(&self) -> Result<(), Refusal>
-        requires square { Square self.now.matrix.now self.now.n }
-        requires k_bound { (self.now.k ≤ 20) × (length self.now.near.now ≡ self.now.n * self.now.k) }
-        requires ka_bound { (self.now.ka ≤ 5) × (length self.now.alpha.now ≡ self.now.n * self.now.ka) }
-        ensures { number_in result ≡ verdict (list_checks self.now.n self.now.k self.now.ka self.now.matrix.now self.now.near.now self.now.alpha.now) }
-    {
-        let matrix = Matrix {
-            n: self.n,
-            times: self.matrix,
-        };
-        if !symmetric(&matrix) {
-            return Err(Refusal::Asymmetric);
-        }
-        if !list_good(self.near, self.k, self.n) {
-            return Err(Refusal::Entry);
-        }
-        if !list_good(self.alpha, self.ka, self.n) {
-            return Err(Refusal::Entry);
-        }
-        Ok(())
-    }
-
-    // 1 to 6. `more` is the length of what else is lent, `told` what else 2 asks.
-    pub fn check_lent(&self, more: usize, told: bool) -> Result<(), Refusal>
-        ensures { number_in result ≡ lent_number self.now.n self.now.k self.now.ka self.now.matrix.now self.now.near.now self.now.alpha.now (length self.now.round.now ∷ length self.now.places.now ∷ length self.now.queue.now ∷ length self.now.flags.now ∷ length self.now.scratch.now ∷ more ∷ []) (length self.now.journal.now) told }
-    {
-        check_sizes(self.n, self.k, self.ka, told)?;
-        self.check_lengths(more)?;
-        self.check_lists()
+            self.matrix,
+            self.near,
+            self.alpha,
+            &lengths,
+            self.journal.len(),
+            told,
+        )
     }
 
     // 7: the round holds each stop once, the places are its inverse, queue and flags agree, the journal is in range and the time is the recount.

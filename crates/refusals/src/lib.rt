@@ -2,8 +2,14 @@
 
 #![tactic(auto)]
 
+pub use crate::asked::{kick_good, step_good};
+pub use crate::even::symmetric;
+pub use crate::lists::list_good;
+pub use crate::parts::lent_number;
+
 pub mod asked;
 pub mod even;
 pub mod lent;
 pub mod lists;
+pub mod parts;
 pub mod sizes;

@@ -1,7 +1,9 @@
 // A tally for each kind of answer: the start rounds, the exact solver, each call that was accepted, and refusals of any call.
+ghost use Rattle.std.specs.Prelude.{◌≡◌, ◌+◌, IsTrue, min};
+
 use lending::told::Call;
 use sessions::calls::Met;
-use std::{fmt, io};
+use std::fmt;
 
 // So many of a kind that differ are told by their number in the list.
 const TOLD: u64 = 5;
@@ -72,7 +74,11 @@ struct Tally {
 }
 
 impl Tally {
-    fn count(&mut self, agreed: bool) {
+    fn count(&mut self, agreed: bool)
+        ensures run { self.new.run ≡ min (self.old.run + 1) u64.MAX }
+        ensures agrees { IsTrue agreed → (self.new.agreed ≡ min (self.old.agreed + 1) u64.MAX) × (self.new.differed ≡ self.old.differed) }
+        ensures differs { ¬ (IsTrue agreed) → (self.new.agreed ≡ self.old.agreed) × (self.new.differed ≡ min (self.old.differed + 1) u64.MAX) }
+    {
         self.run = self.run.saturating_add(1);
         if agreed {
             self.agreed = self.agreed.saturating_add(1);
@@ -99,27 +105,19 @@ pub struct Tallies([Tally; 8]);
 
 impl Tallies {
     // After another case, the so manieth of the list.
-    pub fn count(
-        &mut self,
-        rt: &impl Print,
-        answer: Answer,
-        agreed: bool,
-        record: u64,
-    ) -> io::Result<()> {
+    pub fn count(&mut self, rt: &impl Print, answer: Answer, agreed: bool, record: u64) {
         let tally = &mut self.0[answer as usize];
         if !agreed && tally.differed < TOLD {
-            println!(rt; "{answer}: record {record} differs")?;
+            let _ = println!(rt; "{answer}: record {record} differs");
         }
         tally.count(agreed);
-        Ok(())
     }
 
     // Says how many of each kind there were.
-    pub fn tell(&self, rt: &impl Print) -> io::Result<()> {
+    pub fn tell(&self, rt: &impl Print) {
         for answer in Answer::ALL {
             let tally = self.0[answer as usize];
-            println!(rt; "{answer}: {tally}")?;
+            let _ = println!(rt; "{answer}: {tally}");
         }
-        Ok(())
     }
 }

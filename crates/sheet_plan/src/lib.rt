@@ -11,7 +11,6 @@ ghost use Rattle.sheet_plan.specs.Load.{triangle_in, Loaded};
 
 use bits::read::{read12, read16};
 use sheets::sheet::Sheet;
-use std::cmp::Ordering;
 
 // The leg from a to a higher b, read off the sheet's triangle.
 #[tactic(auto, using(crate::proofs::LoadLaws::leg_is))]
@@ -28,21 +27,25 @@ fn cell(s: &[u8], n: usize, a: usize, b: usize) -> u16
     requires { (n ≤ 128) × (a < n) × (b < n) × (16 + n * (n - 1) ≤ length s.now) }
     ensures { result ≡ triangle_leg n (triangle_in n s.now) a b }
 {
-    match a.cmp(&b) {
-        Ordering::Equal => 0,
-        Ordering::Less => leg_at(s, n, a, b),
-        Ordering::Greater => leg_at(s, n, b, a),
+    if a < b {
+        leg_at(s, n, a, b)
+    } else if b < a {
+        leg_at(s, n, b, a)
+    } else {
+        0
     }
 }
 
-// The whole matrix, cell by cell. It takes bytes, as load_list does, and no Sheet: any that are long enough serve.
+// The whole matrix, row by row. It takes bytes, as load_list does, and no Sheet: any that are long enough serve.
 #[tactic(auto, using(crate::proofs::LoadLaws::matrix_filled))]
 pub fn load_matrix(s: &[u8], n: usize, m: &mut [u16])
     requires { (1 ≤ n) × (n ≤ 128) × (16 + n * (n - 1) ≤ length s.now) × (length m.old ≡ n * n) }
     ensures { m.new ≡ matrix_of n (triangle_leg n (triangle_in n s.now)) }
 {
-    for (at, leg) in m.iter_mut().enumerate() {
-        *leg = cell(s, n, at / n, at % n);
+    for a in 0..n {
+        for b in 0..n {
+            m[a * n + b] = cell(s, n, a, b);
+        }
     }
 }
 

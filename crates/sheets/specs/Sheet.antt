@@ -1,5 +1,5 @@
 -- A sheet's header as the code holds it, the parts of its checks, and what a sheet without a refusal has. Assumes nothing.
-use Rattle.std.specs.Prelude.{ℕ, ◌*◌, ◌≤◌, Bool, cond, not, ◌&&◌, List, [], ◌∷◌, leb, ltb, eqb, length, drop}
+use Rattle.std.specs.Prelude.{ℕ, ◌*◌, ◌≤◌, Bool, not, ◌&&◌, List, [], ◌∷◌, leb, ltb, eqb, length, drop}
 use Rattle.rules.specs.Words.{Stop}
 use Rattle.rules.specs.Lists.{every}
 use Rattle.rules.specs.Bits.{bits_of}
@@ -10,7 +10,7 @@ use Rattle.sheets.specs.declared.header.Header.{Header as Held}
 
 -- the rule's header of the code's
 abbrev pub header_of : Held → Header
-header_of h = record { version = h.version; step = h.step; stop = cond h.stop 1 0; n = h.n; k = h.k; ka = h.ka; spare = h.spare; budget = h.budget; seed = h.seed }
+header_of h = record { version = h.version; step = h.step; stop = h.stop; n = h.n; k = h.k; ka = h.ka; spare = h.spare; budget = h.budget; seed = h.seed }
 
 -- 9, but for the length, and 1
 unfoldable pub head_checks : Header → List Check

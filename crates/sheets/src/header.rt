@@ -6,13 +6,13 @@ ghost use Rattle.sheets.specs.Sheet.{header_of, Narrow};
 
 use bits::read::{read32, read64};
 
-// The step is a number and no kind yet: a sheet may hold 3, which is refused.
+// The step is a number and no kind yet: a sheet may hold 3, which is refused. The stop flag is a number and no bool: a caller's header may hold any.
 // That its sizes are Narrow is asked where it is needed, and is no ghost field: head_check takes any header.
 #[derive(Clone, Copy, PartialEq, Eq, Debug)]
 pub struct Header {
     pub version: u32,
     pub step: u32,
-    pub stop: bool,
+    pub stop: u32,
     pub n: usize,
     pub k: usize,
     pub ka: usize,
@@ -31,7 +31,7 @@ impl Header {
         Header {
             version: v >> 28,
             step: v >> 26 & 0x3,
-            stop: v >> 25 & 0x1 == 1,
+            stop: v >> 25 & 0x1,
             n: (v >> 12 & 0x1fff) as usize,
             k: (v >> 7 & 0x1f) as usize,
             ka: (v >> 4 & 0x7) as usize,

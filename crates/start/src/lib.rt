@@ -86,10 +86,12 @@ impl Scan for Plain {
         let mut best: u32 = 65536;
         let mut so = 0;
         for (j, time) in row.times.iter().enumerate() {
-            let d = *time as u32;
-            if row.mask[j] == 0 && d < best {
-                best = d;
-                so = j as u32;
+            if row.mask[j] == 0 {
+                let d = *time as u32;
+                if d < best {
+                    best = d;
+                    so = j as u32;
+                }
             }
         }
         Stop(so)

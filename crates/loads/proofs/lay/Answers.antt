@@ -12,10 +12,10 @@ pub loop-place-preserved : goal.loop-place-preserved
 loop-place-preserved c =
     let pre = c.requires in
     let loop = c.loop-place in
-    (omega (arith, c.loop-place-test.true), laying_turn c.args.start.now pre.is_round pre.few loop.places loop.place loop.invariant.1 c.loop-place-test.true)
+    (omega (arith, c.loop-place-test.true), laying_turn c.args.start.now pre.is_round pre.few loop.round loop.places loop.place loop.invariant.1 c.loop-place-test.true)
 
 pub returns : goal.returns
 returns c =
     let pre = c.requires in
     let loop = c.loop-place in
-    laying_done c.args.start.now pre.is_round pre.few _ loop.places loop.place c.copy_from_slice.ensures.after loop.invariant.1 (omega (arith, c.loop-place-test.false))
+    laying_done c.args.start.now pre.is_round pre.few loop.round loop.places loop.place loop.invariant.1 (omega (arith, c.loop-place-test.false))

@@ -5,6 +5,7 @@ use mir.ValLaws.{to_z-of_z}
 use mir.Syntax.{w32}
 use mathlib.Core.Path.{refl, sym, ap, ◌∙◌}
 use native.Mathlib.Omega.{arith}
+use borrow.Author.Rules.{rules}
 use Rattle.std.proofs.lemmas.Result.{err_from_is_err_and}
 use Rattle.rules.specs.Memory.{Lent}
 use Rattle.numbers.proofs.RefusalLaws.{refused_some}
@@ -25,7 +26,7 @@ returns-in_err-check_kick c =
     let l : Lent = lending a.n a.k a.ka a.matrix.now a.near.now a.alpha.now a.round.now a.places.now a.queue.now a.flags.now a.scratch.now a.journal.now in
     let p = err_from_is_err_and c.from_residual.result c.from_residual.ensures.1 in
     let some = refused_some c.in_err-check_kick.field-0.0 in
-    rw (p.1, p.2) (kick_refuses l (carried_in a.state) a.kind a.draw.now _ c.in_err-check_kick.ensures (λ z. omega (arith, z, some)))
+    rw (p.1, p.2) (kick_refuses l (carried_in a.state) a.kind a.draw.now _ (search rules) (λ z. omega (arith, z, some)))
 
 pub invariant_of-matrix : goal.invariant_of-matrix
 invariant_of-matrix c =

@@ -36,7 +36,7 @@ returns-then-e-v c =
 
 pub loop-i-preserved : goal.loop-i-preserved
 loop-i-preserved c =
-    (omega (arith, c.loop-i-test.true), below_more _ _ c.loop-i.invariant.1 (omega (arith, c.if-n-e.false), c.if-e-v.false))
+    (omega (arith, c.loop-i-test.true), below_more _ _ c.loop-i.invariant.1 (omega arith, λ e. omega (arith, e)))
 
 pub returns : goal.returns
 returns c =
