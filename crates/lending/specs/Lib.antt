@@ -1,3 +1,4 @@
+pub mod Memories
 pub mod Names
 pub mod Reading
 pub mod Results

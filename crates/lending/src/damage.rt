@@ -1,6 +1,7 @@
 // Damage to what is lent, and its repair: a word is set, a slice is cut or grown with 0, or a number that goes in by value is put.
 ghost use Rattle.std.specs.Prelude.{◌≡◌, ◌<◌, IfSome, IsNone};
 ghost use Rattle.lending.specs.Names.{slice_number, number_name};
+ghost use Rattle.lending.specs.Results.{HasSameSizes};
 
 use crate::memory::Memory;
 use crate::reader::Reader;
@@ -103,7 +104,9 @@ impl Damage {
     }
 
     // Does it to what is lent.
-    pub fn apply(self, session: &mut Session, memory: &mut Memory) {
+    pub fn apply(self, session: &mut Session, memory: &mut Memory)
+        ensures { HasSameSizes memory.new.work memory.old.work }
+    {
         match self {
             Damage::Strike(slice, change) => memory.strike(&mut session.lengths, slice, change),
             Damage::Put(number, value) => session.put(number, value),
@@ -154,7 +157,9 @@ fn strike<T: Word>(words: &mut [T], lent: &mut usize, change: Change) {
 
 impl Memory {
     // Changes a slice.
-    fn strike(&mut self, lengths: &mut Lengths, slice: Slice, change: Change) {
+    fn strike(&mut self, lengths: &mut Lengths, slice: Slice, change: Change)
+        ensures { HasSameSizes self.new.work self.old.work }
+    {
         let plan = &mut self.plan;
         let work = &mut self.work;
         match slice {
@@ -168,7 +173,6 @@ impl Memory {
             Slice::Scratch => strike(&mut work.scratch, &mut lengths.scratch, change),
             Slice::Journal => strike(&mut work.journal, &mut lengths.journal, change),
         }
-        work.fit(lengths);
     }
 }
 

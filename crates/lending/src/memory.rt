@@ -1,7 +1,9 @@
 // The memory that calls are lent, from the start of each slice as much as the session says. It is on the heap: no crate but the program
 // `replay` and its library of calls stands on it. All of it is there before the first record, so that none fails for want of it later.
-// What a call reads, and the round, keep their whole length. The other slices that it writes are as long as what is lent of them.
-ghost use Rattle.std.specs.Prelude.{◌≡◌, ◌≤◌, ◌-◌, ◌++◌, length, min, take, replicate, vec_len, vec_capacity};
+// Each slice keeps its whole length, since what lies beyond what is lent stays for later. Where what a call writes is fitted to what is lent, a
+// refused call keeps and compares no more: the program begins with room alone, and fits it after each record.
+ghost use Rattle.std.specs.Prelude.{◌≡◌, ◌≤◌, ◌-◌, ◌++◌, length, min, take, replicate, vec_len, vec_capacity, IfOk};
+ghost use Rattle.lending.specs.Memories.{HoldsNoMore, IsBlank, IsKept, IsRoom};
 ghost use Rattle.lending.specs.Results.{HasRoom, HasSameSizes, HasSameWords, fitted};
 
 use crate::session::Lengths;
@@ -50,27 +52,60 @@ pub struct Memory {
 
 impl Memory {
     // Memory in which every word is 0.
-    pub fn new(alloc: Global) -> Result<Memory, AllocError> {
-        let plan = Plan {
+    pub fn new(alloc: Global) -> Result<Memory, AllocError>
+        ensures { IfOk result (λ memory. IsBlank memory.work) }
+    {
+        Ok(Memory {
+            plan: Plan::new(alloc)?,
+            work: Work::new(alloc)?,
+            start: vec![in alloc; 0; STOPS]?,
+            kept: Work::new(alloc)?,
+        })
+    }
+
+    // The same, but of what a call writes only the round is there, and for the other slices there is room.
+    pub fn with_room(alloc: Global) -> Result<Memory, AllocError>
+        ensures { IfOk result (λ memory. IsRoom memory.work) }
+    {
+        Ok(Memory {
+            plan: Plan::new(alloc)?,
+            work: Work::with_room(alloc)?,
+            start: vec![in alloc; 0; STOPS]?,
+            kept: Work::with_room(alloc)?,
+        })
+    }
+}
+
+impl Plan {
+    // Every word is 0.
+    fn new(alloc: Global) -> Result<Plan, AllocError> {
+        Ok(Plan {
             matrix: vec![in alloc; 0; CELLS]?,
             near: vec![in alloc; 0; NEAR]?,
             alpha: vec![in alloc; 0; ALPHA]?,
-        };
-        let work = Work::new(alloc)?;
-        let start = vec![in alloc; 0; STOPS]?;
-        let kept = Work::new(alloc)?;
-        Ok(Memory {
-            plan,
-            work,
-            start,
-            kept,
         })
     }
 }
 
 impl Work {
+    // Every word is 0.
+    fn new(alloc: Global) -> Result<Work, AllocError>
+        ensures { IfOk result IsBlank }
+    {
+        Ok(Work {
+            round: vec![in alloc; 0; ROUND]?,
+            places: vec![in alloc; 0; STOPS]?,
+            queue: vec![in alloc; 0; STOPS]?,
+            flags: vec![in alloc; 0; STOPS]?,
+            scratch: vec![in alloc; 0; STOPS]?,
+            journal: vec![in alloc; 0; JOURNAL]?,
+        })
+    }
+
     // A round in which every word is 0, and room for the other slices, of which nothing is lent.
-    fn new(alloc: Global) -> Result<Work, AllocError> {
+    fn with_room(alloc: Global) -> Result<Work, AllocError>
+        ensures { IfOk result IsRoom }
+    {
         Ok(Work {
             round: vec![in alloc; 0; ROUND]?,
             places: Vec::with_capacity(alloc, STOPS)?,
@@ -89,6 +124,7 @@ impl Work {
         ensures flags { self.new.flags.items ≡ fitted (min lengths.now.flags (vec_capacity self.old.flags)) self.old.flags.items }
         ensures scratch { self.new.scratch.items ≡ fitted (min lengths.now.scratch (vec_capacity self.old.scratch)) self.old.scratch.items }
         ensures journal { self.new.journal.items ≡ fitted (min lengths.now.journal (vec_capacity self.old.journal)) self.old.journal.items }
+        ensures no_more { HoldsNoMore self.new lengths.now }
     {
         fit(&mut self.places, lengths.places, 0);
         fit(&mut self.queue, lengths.queue, 0);
@@ -101,6 +137,7 @@ impl Work {
     pub fn keep(&mut self, work: &Work)
         ensures same_sizes { HasSameSizes self.old work.now → HasSameWords self.new work.now }
         ensures room { HasRoom self.old work.now → HasSameWords self.new work.now }
+        ensures kept { IsKept self.old work.now self.new }
     {
         keep(&mut self.round, &work.round);
         keep(&mut self.places, &work.places);
@@ -137,12 +174,14 @@ fn fit<T: Copy>(words: &mut Vec<T>, count: usize, zero: T)
     let _ = words.resize(count, zero);
 }
 
-// Copies words. It asks for memory only where there is no room for them, and keeps none where it is refused.
+// Copies words, as many as there is room for.
 fn keep<T: Copy>(kept: &mut Vec<T>, words: &[T])
-    ensures { length words.now ≤ vec_capacity kept.old → kept.new.items ≡ words.now }
+    ensures { kept.new.items ≡ take (vec_capacity kept.old) words.now }
 {
+    let count = words.len().min(kept.capacity());
     kept.clear();
-    let _ = kept.extend_from_slice(words);
+    // It asks for no memory, so it does not fail.
+    let _ = kept.extend_from_slice(&words[..count]);
 }
 
 // As much of a slice as is lent to be read.

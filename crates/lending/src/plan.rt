@@ -1,5 +1,6 @@
 // What a record sets up: the matrix, by its rule, and the lists.
 ghost use Rattle.std.specs.Prelude.{◌≡◌, ◌≤◌};
+ghost use Rattle.lending.specs.Memories.{IsCleared};
 ghost use Rattle.lending.specs.Results.{IsFresh};
 
 use crate::memory::{Memory, STOPS, lent_mut};
@@ -170,7 +171,8 @@ impl Session {
 
 // Sets up what is lent, as a record says: matrix and lists, and in all else every word is 0.
 pub fn set_up(record: &mut Reader, memory: &mut Memory) -> Session
-    ensures { IsFresh result }
+    ensures fresh { IsFresh result }
+    ensures cleared { IsCleared memory.old.work memory.new.work }
 {
     let (session, recipe) = Session::read(record);
     let plan = &mut memory.plan;
@@ -178,7 +180,6 @@ pub fn set_up(record: &mut Reader, memory: &mut Memory) -> Session
     recipe.make(record, session.n, matrix);
     record.fill(lent_mut(&mut plan.near, session.lengths.near));
     record.fill(lent_mut(&mut plan.alpha, session.lengths.alpha));
-    memory.work.fit(&session.lengths);
     memory.work.clear();
     session
 }

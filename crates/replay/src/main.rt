@@ -67,7 +67,7 @@ impl Replay {
             records: 0,
             tallies: Tallies::default(),
             session: Session::default(),
-            memory: Memory::new(alloc)?,
+            memory: Memory::with_room(alloc)?,
             table: vec![in alloc; 0; TABLE]?,
         })
     }
@@ -87,7 +87,12 @@ impl Replay {
                 self.tallies.count(rt, Answer::Exact, agreed, self.records);
             }
             Some(Kind::Session) => {
-                let met = records::follow(&mut self.session, &mut self.memory, number, record);
+                let met = records::follow_fitted(
+                    &mut self.session,
+                    &mut self.memory,
+                    number,
+                    record,
+                );
                 if let Some(met) = met {
                     self.tallies
                         .count(rt, Answer::from(met), met.agreed, self.records);

@@ -4,3 +4,5 @@
 
 pub mod calls;
 pub mod records;
+#[cfg(test)]
+mod tests;

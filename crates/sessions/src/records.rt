@@ -1,5 +1,6 @@
 // The records of a session: one sets up what is lent, others damage it or call.
 ghost use Rattle.std.specs.Prelude.{◌≡◌, ◌≢◌, IfSome, IsNone, IsSome};
+ghost use Rattle.lending.specs.Memories.{HoldsNoMore};
 ghost use Rattle.sessions.specs.Records.{kind_number};
 
 use crate::calls::{Met, meet};
@@ -51,4 +52,22 @@ pub fn follow(session: &mut Session, memory: &mut Memory, kind: u8, record: &[u8
         }
         Kind::Call => Some(meet(session, &mut record, memory)),
     }
+}
+
+// The same, and then what a call writes is fitted to what is lent of it, so that a refused call keeps and compares no more.
+pub fn follow_fitted(
+    session: &mut Session,
+    memory: &mut Memory,
+    kind: u8,
+    record: &[u8],
+) -> Option<Met>
+    ensures call { IsSome result → kind ≡ kind_number Kind.Call }
+    ensures no_call { IsNone result → kind ≢ kind_number Kind.Call }
+    ensures no_more { IsNone result → HoldsNoMore memory.new.work session.new.lengths }
+{
+    let met = follow(session, memory, kind, record);
+    if met.is_none() {
+        memory.work.fit(&session.lengths);
+    }
+    met
 }
