@@ -1,5 +1,5 @@
 // The records of a session: one sets up what is lent, others damage it or call.
-ghost use Rattle.std.specs.Prelude.{◌≡◌, ◌≢◌, IfSome, IsNone, IsSome};
+ghost use Rattle.std.specs.Prelude.{◌≡◌, ◌≢◌, IfSome, IsNone, IsSome, IsTrue};
 ghost use Rattle.lending.specs.Memories.{HoldsNoMore};
 ghost use Rattle.sessions.specs.Records.{kind_number};
 
@@ -34,19 +34,33 @@ impl Kind {
 }
 
 // Does what a record of a session says; one of another kind says nothing. A call is made and compared, and it says how that went.
-pub fn follow(session: &mut Session, memory: &mut Memory, kind: u8, record: &[u8]) -> Option<Met>
+fn follow_as<const FITTED: bool>(
+    session: &mut Session,
+    memory: &mut Memory,
+    kind: u8,
+    record: &[u8],
+) -> Option<Met>
     ensures call { IsSome result → kind ≡ kind_number Kind.Call }
     ensures no_call { IsNone result → kind ≢ kind_number Kind.Call }
+    ensures no_more { IsTrue FITTED → kind ≡ kind_number Kind.SetUp → HoldsNoMore memory.new.work session.new.lengths }
 {
     let mut record = Reader::new(record);
     match Kind::from_number(kind)? {
         Kind::SetUp => {
             *session = set_up(&mut record, memory);
+            if FITTED {
+                memory.work.fit(&session.lengths);
+            }
             None
         }
         Kind::Damage => {
             if let Some(damage) = Damage::read(&mut record) {
                 damage.apply(session, memory);
+                if let Damage::Strike(..) = damage {
+                    if FITTED {
+                        memory.work.fit(&session.lengths);
+                    }
+                }
             }
             None
         }
@@ -54,7 +68,15 @@ pub fn follow(session: &mut Session, memory: &mut Memory, kind: u8, record: &[u8
     }
 }
 
-// The same, and then what a call writes is fitted to what is lent of it, so that a refused call keeps and compares no more.
+// Does it over memory that keeps its whole length.
+pub fn follow(session: &mut Session, memory: &mut Memory, kind: u8, record: &[u8]) -> Option<Met>
+    ensures call { IsSome result → kind ≡ kind_number Kind.Call }
+    ensures no_call { IsNone result → kind ≢ kind_number Kind.Call }
+{
+    follow_as::<false>(session, memory, kind, record)
+}
+
+// Does it, and fits what a call writes to what is lent of it, so that a refused call keeps and compares no more.
 pub fn follow_fitted(
     session: &mut Session,
     memory: &mut Memory,
@@ -63,11 +85,7 @@ pub fn follow_fitted(
 ) -> Option<Met>
     ensures call { IsSome result → kind ≡ kind_number Kind.Call }
     ensures no_call { IsNone result → kind ≢ kind_number Kind.Call }
-    ensures no_more { IsNone result → HoldsNoMore memory.new.work session.new.lengths }
+    ensures no_more { kind ≡ kind_number Kind.SetUp → HoldsNoMore memory.new.work session.new.lengths }
 {
-    let met = follow(session, memory, kind, record);
-    if met.is_none() {
-        memory.work.fit(&session.lengths);
-    }
-    met
+    follow_as::<true>(session, memory, kind, record)
 }

@@ -116,6 +116,14 @@ fn what_is_fitted_is_as_long_as_what_is_lent(rt: HostRuntime) -> Result<(), Fail
     assert!(rt; met.agreed, "a load of five stops");
     assert_eq!(rt; memory.work.places.len(), 5);
     assert_eq!(rt; memory.work.journal.len(), 2560);
+    // The places are cut to 3.
+    let mut cut = [0; 20];
+    for (at, value) in [(0, 2), (4, 4), (8, 3)] {
+        put(&mut cut, at, value);
+    }
+    let met = follow_fitted(&mut session, &mut memory, 4, &cut);
+    assert!(rt; met.is_none(), "damage is no call");
+    assert_eq!(rt; memory.work.places.len(), 3);
     Ok(())
 }
 
