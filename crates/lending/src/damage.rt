@@ -1,5 +1,6 @@
 // Damage to what is lent, and its repair: a word is set, a slice is cut or grown with 0, or a number that goes in by value is put.
 ghost use Rattle.std.specs.Prelude.{◌≡◌, ◌<◌, IfSome, IsNone};
+ghost use Rattle.lending.specs.Memories.{HoldsNoMore};
 ghost use Rattle.lending.specs.Names.{slice_number, number_name};
 ghost use Rattle.lending.specs.Results.{HasSameSizes};
 
@@ -112,6 +113,19 @@ impl Damage {
             Damage::Put(number, value) => session.put(number, value),
         }
     }
+
+    // Does it, and fits what a call writes to what is lent of it.
+    pub fn apply_fitted(self, session: &mut Session, memory: &mut Memory)
+        ensures { HoldsNoMore memory.old.work session.old.lengths → HoldsNoMore memory.new.work session.new.lengths }
+    {
+        match self {
+            Damage::Strike(slice, change) => {
+                memory.strike(&mut session.lengths, slice, change);
+                memory.work.fit(&session.lengths);
+            }
+            Damage::Put(number, value) => session.put(number, value),
+        }
+    }
 }
 
 // A word of a slice.
@@ -178,7 +192,9 @@ impl Memory {
 
 impl Session {
     // Puts a number.
-    fn put(&mut self, number: Number, value: u64) {
+    fn put(&mut self, number: Number, value: u64)
+        ensures { self.new.lengths ≡ self.old.lengths }
+    {
         let word = u32::low(value);
         match number {
             Number::N => self.n = word as usize,

@@ -1,6 +1,6 @@
 // What a record sets up: the matrix, by its rule, and the lists.
 ghost use Rattle.std.specs.Prelude.{◌≡◌, ◌≤◌};
-ghost use Rattle.lending.specs.Memories.{IsCleared};
+ghost use Rattle.lending.specs.Memories.{HoldsNoMore, IsCleared};
 ghost use Rattle.lending.specs.Results.{IsFresh};
 
 use crate::memory::{Memory, STOPS, lent_mut};
@@ -181,5 +181,15 @@ pub fn set_up(record: &mut Reader, memory: &mut Memory) -> Session
     record.fill(lent_mut(&mut plan.near, session.lengths.near));
     record.fill(lent_mut(&mut plan.alpha, session.lengths.alpha));
     memory.work.clear();
+    session
+}
+
+// The same, and what a call writes is fitted to what is lent of it.
+pub fn set_up_fitted(record: &mut Reader, memory: &mut Memory) -> Session
+    ensures fresh { IsFresh result }
+    ensures no_more { HoldsNoMore memory.new.work result.lengths }
+{
+    let session = set_up(record, memory);
+    memory.work.fit(&session.lengths);
     session
 }

@@ -6,7 +6,7 @@ ghost use Rattle.sessions.specs.Records.{kind_number};
 use crate::calls::{Met, meet};
 use lending::damage::Damage;
 use lending::memory::Memory;
-use lending::plan::set_up;
+use lending::plan::{set_up, set_up_fitted};
 use lending::reader::Reader;
 use lending::session::Session;
 
@@ -42,24 +42,25 @@ fn follow_as<const FITTED: bool>(
 ) -> Option<Met>
     ensures call { IsSome result → kind ≡ kind_number Kind.Call }
     ensures no_call { IsNone result → kind ≢ kind_number Kind.Call }
-    ensures no_more { IsTrue FITTED → kind ≡ kind_number Kind.SetUp → HoldsNoMore memory.new.work session.new.lengths }
+    ensures no_more { IsTrue FITTED → IsNone result → HoldsNoMore memory.old.work session.old.lengths → HoldsNoMore memory.new.work session.new.lengths }
+    ensures set_up { IsTrue FITTED → kind ≡ kind_number Kind.SetUp → HoldsNoMore memory.new.work session.new.lengths }
 {
     let mut record = Reader::new(record);
     match Kind::from_number(kind)? {
         Kind::SetUp => {
-            *session = set_up(&mut record, memory);
-            if FITTED {
-                memory.work.fit(&session.lengths);
-            }
+            *session = if FITTED {
+                set_up_fitted(&mut record, memory)
+            } else {
+                set_up(&mut record, memory)
+            };
             None
         }
         Kind::Damage => {
             if let Some(damage) = Damage::read(&mut record) {
-                damage.apply(session, memory);
-                if let Damage::Strike(..) = damage {
-                    if FITTED {
-                        memory.work.fit(&session.lengths);
-                    }
+                if FITTED {
+                    damage.apply_fitted(session, memory);
+                } else {
+                    damage.apply(session, memory);
                 }
             }
             None
@@ -85,7 +86,8 @@ pub fn follow_fitted(
 ) -> Option<Met>
     ensures call { IsSome result → kind ≡ kind_number Kind.Call }
     ensures no_call { IsNone result → kind ≢ kind_number Kind.Call }
-    ensures no_more { kind ≡ kind_number Kind.SetUp → HoldsNoMore memory.new.work session.new.lengths }
+    ensures no_more { IsNone result → HoldsNoMore memory.old.work session.old.lengths → HoldsNoMore memory.new.work session.new.lengths }
+    ensures set_up { kind ≡ kind_number Kind.SetUp → HoldsNoMore memory.new.work session.new.lengths }
 {
     follow_as::<true>(session, memory, kind, record)
 }
