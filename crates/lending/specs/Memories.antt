@@ -14,7 +14,7 @@ pub record IsBlank (work : Work) : Type 0 where
   pub journal : work.journal.items ≡ replicate JOURNAL 0
 
 -- of what calls write the round alone is there, and there is room for the other slices
-pub record IsRoom (work : Work) : Type 0 where
+pub record HasRoomAlone (work : Work) : Type 0 where
   pub round : work.round.items ≡ replicate ROUND 0
   pub places : (work.places.items ≡ []) × (STOPS ≤ vec_capacity work.places)
   pub queue : (work.queue.items ≡ []) × (STOPS ≤ vec_capacity work.queue)
@@ -32,7 +32,7 @@ pub record IsCleared (old new : Work) : Type 0 where
   pub journal : new.journal.items ≡ replicate (vec_len old.journal) 0
 
 -- of each slice as many words were kept as there was room for
-pub record IsKept (old work new : Work) : Type 0 where
+pub record HasKept (old work new : Work) : Type 0 where
   pub round : new.round.items ≡ take (vec_capacity old.round) work.round.items
   pub places : new.places.items ≡ take (vec_capacity old.places) work.places.items
   pub queue : new.queue.items ≡ take (vec_capacity old.queue) work.queue.items

@@ -1,9 +1,9 @@
 // The memory that calls are lent, from the start of each slice as much as the session says. It is on the heap: no crate but the program
 // `replay` and its library of calls stands on it. All of it is there before the first record, so that none fails for want of it later.
-// Each slice keeps its whole length, since what lies beyond what is lent stays for later. Where what a call writes is fitted to what is lent, a
-// refused call keeps and compares no more: the program begins with room alone, and fits it after each record.
+// Each slice keeps its whole length, since what lies beyond what is lent stays for later. The program begins with room alone for what a call
+// writes, and fits it to what is lent when a record sets it up or changes a slice, so that a refused call keeps and compares no more.
 ghost use Rattle.std.specs.Prelude.{◌≡◌, ◌≤◌, ◌-◌, ◌++◌, length, min, take, replicate, vec_len, vec_capacity, IfOk};
-ghost use Rattle.lending.specs.Memories.{HoldsNoMore, IsBlank, IsKept, IsRoom};
+ghost use Rattle.lending.specs.Memories.{HoldsNoMore, IsBlank, HasKept, HasRoomAlone};
 ghost use Rattle.lending.specs.Results.{HasRoom, HasSameSizes, HasSameWords, fitted};
 
 use crate::session::Lengths;
@@ -65,7 +65,7 @@ impl Memory {
 
     // The same, but of what a call writes only the round is there, and for the other slices there is room.
     pub fn with_room(alloc: Global) -> Result<Memory, AllocError>
-        ensures { IfOk result (λ memory. IsRoom memory.work) }
+        ensures { IfOk result (λ memory. HasRoomAlone memory.work) }
     {
         Ok(Memory {
             plan: Plan::new(alloc)?,
@@ -104,7 +104,7 @@ impl Work {
 
     // A round in which every word is 0, and room for the other slices, of which nothing is lent.
     fn with_room(alloc: Global) -> Result<Work, AllocError>
-        ensures { IfOk result IsRoom }
+        ensures { IfOk result HasRoomAlone }
     {
         Ok(Work {
             round: vec![in alloc; 0; ROUND]?,
@@ -137,7 +137,7 @@ impl Work {
     pub fn keep(&mut self, work: &Work)
         ensures same_sizes { HasSameSizes self.old work.now → HasSameWords self.new work.now }
         ensures room { HasRoom self.old work.now → HasSameWords self.new work.now }
-        ensures kept { IsKept self.old work.now self.new }
+        ensures kept { HasKept self.old work.now self.new }
     {
         keep(&mut self.round, &work.round);
         keep(&mut self.places, &work.places);

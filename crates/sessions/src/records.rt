@@ -1,6 +1,7 @@
 // The records of a session: one sets up what is lent, others damage it or call.
 ghost use Rattle.std.specs.Prelude.{◌≡◌, ◌≢◌, IfSome, IsNone, IsSome, IsTrue};
-ghost use Rattle.lending.specs.Memories.{HoldsNoMore};
+ghost use Rattle.lending.specs.Memories.{HoldsNoMore, IsCleared};
+ghost use Rattle.lending.specs.Results.{HasSameSizes};
 ghost use Rattle.sessions.specs.Records.{kind_number};
 
 use crate::calls::{Met, meet};
@@ -33,7 +34,7 @@ impl Kind {
     }
 }
 
-// Does what a record of a session says; one of another kind says nothing. A call is made and compared, and it says how that went.
+// Does what a record says, over memory that keeps its length, or is fitted to what is lent when it is set up or a slice is changed.
 fn follow_as<const FITTED: bool>(
     session: &mut Session,
     memory: &mut Memory,
@@ -42,6 +43,8 @@ fn follow_as<const FITTED: bool>(
 ) -> Option<Met>
     ensures call { IsSome result → kind ≡ kind_number Kind.Call }
     ensures no_call { IsNone result → kind ≢ kind_number Kind.Call }
+    ensures cleared { ¬ (IsTrue FITTED) → kind ≡ kind_number Kind.SetUp → IsCleared memory.old.work memory.new.work }
+    ensures sizes { ¬ (IsTrue FITTED) → kind ≡ kind_number Kind.Damage → HasSameSizes memory.new.work memory.old.work }
     ensures no_more { IsTrue FITTED → IsNone result → HoldsNoMore memory.old.work session.old.lengths → HoldsNoMore memory.new.work session.new.lengths }
     ensures set_up { IsTrue FITTED → kind ≡ kind_number Kind.SetUp → HoldsNoMore memory.new.work session.new.lengths }
 {
@@ -69,15 +72,19 @@ fn follow_as<const FITTED: bool>(
     }
 }
 
-// Does it over memory that keeps its whole length.
+// Does what a record of a session says; one of another kind says nothing. A call is made and compared, and it says how that went.
+// The memory keeps its length.
 pub fn follow(session: &mut Session, memory: &mut Memory, kind: u8, record: &[u8]) -> Option<Met>
     ensures call { IsSome result → kind ≡ kind_number Kind.Call }
     ensures no_call { IsNone result → kind ≢ kind_number Kind.Call }
+    ensures cleared { kind ≡ kind_number Kind.SetUp → IsCleared memory.old.work memory.new.work }
+    ensures sizes { kind ≡ kind_number Kind.Damage → HasSameSizes memory.new.work memory.old.work }
 {
     follow_as::<false>(session, memory, kind, record)
 }
 
-// Does it, and fits what a call writes to what is lent of it, so that a refused call keeps and compares no more.
+// The same, but what a call writes is fitted to what is lent of it when it is set up or a slice is changed, so that a refused call keeps and
+// compares no more.
 pub fn follow_fitted(
     session: &mut Session,
     memory: &mut Memory,
