@@ -114,7 +114,7 @@ impl Damage {
         }
     }
 
-    // Does it, and where a slice is changed, fits what a call writes to what is lent of it.
+    // Does it, and where a slice is changed, fits what a call writes, the round aside, to what is lent of it.
     pub fn apply_fitted(self, session: &mut Session, memory: &mut Memory)
         ensures { HoldsNoMore memory.old.work session.old.lengths → HoldsNoMore memory.new.work session.new.lengths }
     {

@@ -1,7 +1,7 @@
 // The memory that calls are lent, from the start of each slice as much as the session says. It is on the heap: no crate but the program
 // `replay` and its library of calls stands on it. All of it is there before the first record, so that none fails for want of it later.
-// Each slice keeps its whole length, since what lies beyond what is lent stays for later. The program begins with room alone for what a call
-// writes, and fits it to what is lent when a record sets it up or changes a slice, so that a refused call keeps and compares no more.
+// Each slice keeps its whole length, since what lies beyond what is lent stays for later. But the program begins, the round aside, with room
+// alone for what a call writes, and fits it to what is lent when a record sets it up or changes a slice: a refused call keeps and compares no more.
 ghost use Rattle.std.specs.Prelude.{◌≡◌, ◌≤◌, ◌-◌, ◌++◌, length, min, take, replicate, vec_len, vec_capacity, IfOk};
 ghost use Rattle.lending.specs.Memories.{HoldsNoMore, IsBlank, HasKept, HasRoomAlone};
 ghost use Rattle.lending.specs.Results.{HasRoom, HasSameSizes, HasSameWords, fitted};

@@ -184,7 +184,7 @@ pub fn set_up(record: &mut Reader, memory: &mut Memory) -> Session
     session
 }
 
-// The same, and what a call writes is fitted to what is lent of it.
+// The same, and what a call writes is fitted, the round aside, to what is lent of it.
 pub fn set_up_fitted(record: &mut Reader, memory: &mut Memory) -> Session
     ensures fresh { IsFresh result }
     ensures no_more { HoldsNoMore memory.new.work result.lengths }

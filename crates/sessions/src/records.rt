@@ -34,7 +34,8 @@ impl Kind {
     }
 }
 
-// Does what a record says, over memory that keeps its length, or is fitted to what is lent when it is set up or a slice is changed.
+// Does what a record says. What a call writes keeps its length, or is fitted, the round aside, to what is lent of it when it is set up or a slice
+// is changed.
 fn follow_as<const FITTED: bool>(
     session: &mut Session,
     memory: &mut Memory,
@@ -73,7 +74,7 @@ fn follow_as<const FITTED: bool>(
 }
 
 // Does what a record of a session says; one of another kind says nothing. A call is made and compared, and it says how that went.
-// The memory keeps its length.
+// What a call reads and writes keeps its length.
 pub fn follow(session: &mut Session, memory: &mut Memory, kind: u8, record: &[u8]) -> Option<Met>
     ensures call { IsSome result → kind ≡ kind_number Kind.Call }
     ensures no_call { IsNone result → kind ≢ kind_number Kind.Call }
@@ -83,8 +84,8 @@ pub fn follow(session: &mut Session, memory: &mut Memory, kind: u8, record: &[u8
     follow_as::<false>(session, memory, kind, record)
 }
 
-// The same, but what a call writes is fitted to what is lent of it when it is set up or a slice is changed, so that a refused call keeps and
-// compares no more.
+// The same, but what a call writes is fitted, the round aside, to what is lent of it when it is set up or a slice is changed, so that a refused
+// call keeps and compares no more.
 pub fn follow_fitted(
     session: &mut Session,
     memory: &mut Memory,
